@@ -1,0 +1,4 @@
+// A stand-in.
+pub fn version() -> u8 {
+    0
+}
