@@ -1,4 +1,2 @@
-// A stand-in.
-pub fn version() -> u8 {
-    0
-}
+// Pages that keep what is written through any stop.
+pub mod laws;
