@@ -47,9 +47,9 @@ unfoldable pub Known-allowed : ℕ → ℕ → Bool → Plain → ℕ → Comman
 Known-allowed pages ls other-up w c a t ss reply w₁ =
     ((reply ≡ t .reply) × (ss ≡ t .shows) × (w₁ ≡ t .next))
     ⊎ (((reply ≡ 8) × (ss ≡ []) × (w₁ ≡ w) × (t .reply ≡ 0) × (weight (w .book) (clone-at (w .clones) c) < weight (t .next .book) (clone-at (t .next .clones) c))
-        × (128 * pages < weight (t .next .book) (clone-at (t .next .clones) c)))
+    × (128 * pages < weight (t .next .book) (clone-at (t .next .clones) c)))
     ⊎ ((reply ≡ 9) × (ss ≡ []) × (w₁ ≡ w) × (d : ℕ) × (a ≡ fetch d) × (t .reply ≡ 0)
-        × ((other-up ≡ false) ⊎ (ls < letters (w .book) (clone-at (w .clones) c) (clone-at (w .clones) d)))))
+    × ((other-up ≡ false) ⊎ (ls < letters (w .book) (clone-at (w .clones) c) (clone-at (w .clones) d)))))
 
 unfoldable pub Allowed : Sum → (Command → Bool) → ℕ → ℕ → Bool → Plain → ℕ → List ℕ → List (List ℕ) → ℕ → Plain → Type 0
 Allowed sum known pages ls other-up w c text ss reply w₁ =
@@ -151,9 +151,9 @@ Right sum known e pages vs w (stops c text ls n cs ∷ is) =
     Still-apart sum w c text →
     (w₁ : Plain)
     × (Allowed sum known pages ls (world-at vs (peer c text) .up) w c text (ran-as e n vs c text ls .showed) (ran-as e n vs c text ls .end) w₁
-        ⊎ ((ran-as e n vs c text ls .end ≡ 1000) × (more : List (List ℕ)) × (reply : ℕ) × (w₂ : Plain)
-            × Allowed sum known pages ls (world-at vs (peer c text) .up) w c text (ran-as e n vs c text ls .showed ++ more) reply w₂
-            × ((w₁ ≡ w) ⊎ (w₁ ≡ w₂))))
+    ⊎ ((ran-as e n vs c text ls .end ≡ 1000) × (more : List (List ℕ)) × (reply : ℕ) × (w₂ : Plain)
+    × Allowed sum known pages ls (world-at vs (peer c text) .up) w c text (ran-as e n vs c text ls .showed ++ more) reply w₂
+    × ((w₁ ≡ w) ⊎ (w₁ ≡ w₂))))
     × Right sum known e pages (worlds-after vs c text (ran-as e n vs c text ls) (dark (ran-as e n vs c text ls .here) cs)) w₁ is
 
 abbrev pub new-world : ℕ → World
@@ -174,4 +174,4 @@ Whole known e =
     (sum : Sum) → ((bs : List ℕ) → (length (sum bs) ≡ 32) × (every (λ b. ltb b 256) (sum bs) ≡ true)) →
     Steady (e sum)
     × ((houses pages : ℕ) (is : List Item) → houses ≤ 16 → 64 ≤ pages → pages ≤ 1048576 → length is ≤ 4294967296 → proper (so-many houses false) is ≡ true →
-        Right sum known (e sum) pages (so-many houses (new-world pages)) (record { book = []; clones = so-many houses empty-clone }) is)
+    Right sum known (e sum) pages (so-many houses (new-world pages)) (record { book = []; clones = so-many houses empty-clone }) is)

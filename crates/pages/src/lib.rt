@@ -1,4 +1,2 @@
-// A stand-in.
-pub fn version() -> u8 {
-    0
-}
+// The device, its pages, and what they keep.
+pub mod laws;
