@@ -236,20 +236,21 @@ unfolding added-up
 length-added-up [] = refl
 length-added-up (x ∷ xs) = let h : length xs ≡ added-up (λ _. 1) xs = length-added-up xs in omega arith
 
--- a list without repetition is no longer than one that has all its members
-pub once-length : (xs ys : List ℕ) → Once xs → Once ys → ((x : ℕ) → In x xs → In x ys) → length xs ≤ length ys
-once-length xs ys o q h =
-    let a : added-up (λ _. 1) xs ≤ added-up (λ _. 1) ys = added-up-within eqb decides-eqb (λ _. 1) xs ys o q h in
-    let e : length xs ≡ added-up (λ _. 1) xs = length-added-up xs in
-    let g : length ys ≡ added-up (λ _. 1) ys = length-added-up ys in
-    omega arith
+-- a list without repetition is no longer than one that has all its members; taking a member out shortens it by one
+module _ {A : Type 0} (test : A → A → Bool) (tells : (x y : A) → Decides (test x y) (x ≡ y)) where
+  pub once-length : (xs ys : List A) → Once xs → Once ys → ((x : A) → In x xs → In x ys) → length xs ≤ length ys
+  once-length xs ys o q h =
+      let a : added-up (λ _. 1) xs ≤ added-up (λ _. 1) ys = added-up-within test tells (λ _. 1) xs ys o q h in
+      let e : length xs ≡ added-up (λ _. 1) xs = length-added-up xs in
+      let g : length ys ≡ added-up (λ _. 1) ys = length-added-up ys in
+      omega arith
 
-pub once-length-but : (xs : List ℕ) (x : ℕ) → Once xs → In x xs → length xs ≡ suc (length (those (λ y. not (eqb x y)) xs))
-once-length-but xs x o i =
-    let a : added-up (λ _. 1) xs ≡ 1 + added-up (λ _. 1) (those (λ y. not (eqb x y)) xs) = added-up-but eqb decides-eqb (λ _. 1) xs x o i in
-    let e : length xs ≡ added-up (λ _. 1) xs = length-added-up xs in
-    let g : length (those (λ y. not (eqb x y)) xs) ≡ added-up (λ _. 1) (those (λ y. not (eqb x y)) xs) = length-added-up _ in
-    omega arith
+  pub once-length-but : (xs : List A) (x : A) → Once xs → In x xs → length xs ≡ suc (length (those (λ y. not (test x y)) xs))
+  once-length-but xs x o i =
+      let a : added-up (λ _. 1) xs ≡ 1 + added-up (λ _. 1) (those (λ y. not (test x y)) xs) = added-up-but test tells (λ _. 1) xs x o i in
+      let e : length xs ≡ added-up (λ _. 1) xs = length-added-up xs in
+      let g : length (those (λ y. not (test x y)) xs) ≡ added-up (λ _. 1) (those (λ y. not (test x y)) xs) = length-added-up _ in
+      omega arith
 
 -- ROWS OF NUMBERS: the same, earlier
 
@@ -372,3 +373,28 @@ once-distinct [] = tt
 once-distinct (b ∷ bs) =
     pick-both Once (any (same b) bs) (distinct bs) (b ∷ distinct bs) (λ _. once-distinct bs)
     (λ h. (λ i. same-false b b (any-none (same b) bs h b (distinct-in bs b i)) refl, once-distinct bs))
+
+-- LENGTHS
+
+pub length-each : {A B : Type 0} (f : A → B) (xs : List A) → length (each f xs) ≡ length xs
+length-each f [] = refl
+length-each f (x ∷ xs) = ap suc (length-each f xs)
+
+pub length-those : {A : Type 0} (p : A → Bool) (xs : List A) → length (those p xs) ≤ length xs
+length-those p [] = omega arith
+length-those p (x ∷ xs) =
+    let h : length (those p xs) ≤ length xs = length-those p xs in
+    pick-both (λ l. length l ≤ suc (length xs)) (p x) (x ∷ those p xs) (those p xs) (λ _. omega arith) (λ _. omega arith)
+
+pub those-append : {A : Type 0} (p : A → Bool) (xs ys : List A) → those p (xs ++ ys) ≡ those p xs ++ those p ys
+those-append p [] ys = refl
+those-append p (x ∷ xs) ys = go (p x) (those-append p xs ys)
+  where
+    go : (t : Bool) → those p (xs ++ ys) ≡ those p xs ++ those p ys →
+        pick t (x ∷ those p (xs ++ ys)) (those p (xs ++ ys)) ≡ pick t (x ∷ those p xs) (those p xs) ++ those p ys
+    go true e = ap (λ l. x ∷ l) e
+    go false e = e
+
+pub each-append : {A B : Type 0} (f : A → B) (xs ys : List A) → each f (xs ++ ys) ≡ each f xs ++ each f ys
+each-append f [] ys = refl
+each-append f (x ∷ xs) ys = ap (λ l. f x ∷ l) (each-append f xs ys)
