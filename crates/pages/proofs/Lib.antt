@@ -1,1 +1,3 @@
 pub mod Crash
+pub mod ListLaws
+pub mod DeviceLaws

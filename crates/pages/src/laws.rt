@@ -1,8 +1,16 @@
-// Theorems about the definitions, each on the contract of a function that returns nothing of use.
+// Theorems about the definitions in specs/, each on the contract of a function that does nothing else.
 ghost use Prim.Native.Nat.{ℕ};
 ghost use Rattle.pages.specs.Crash.{Rows, Runs-well};
 ghost use Rattle.pages.specs.Device.{Device};
+ghost use Rattle.pages.specs.Laws.{Flushed-stays};
 ghost use Rattle.pages.specs.Run.{World};
+
+// What was flushed stays, whatever a stop leaves of later writes to other pages.
+pub fn flushed_stays() -> u8
+    ensures { λ _. ⌜ Flushed-stays ⌝ }
+{
+    0
+}
 
 // What is promised of a run: of each stop, and of the end.
 pub trait Promises {
