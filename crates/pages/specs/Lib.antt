@@ -4,3 +4,5 @@ pub mod Device
 pub mod Run
 pub mod Crash
 pub mod Laws
+pub mod Words
+pub mod Machine

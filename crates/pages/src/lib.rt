@@ -1,2 +1,3 @@
 // Pages that keep what is written through any stop.
 pub mod laws;
+pub mod machine;
