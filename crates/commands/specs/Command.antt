@@ -9,25 +9,25 @@ use Rattle.pages.specs.Lists.{every}
 use Rattle.pages.specs.Bytes.{eight, with-length, all-bytes}
 
 pub data Command : Type 0 where
-  write-file : List ℕ → List ℕ → Command        -- a path, bytes
+  write-file : List ℕ → List ℕ → Command  -- a path, bytes
   drop-file : List ℕ → Command
-  commit : ℕ → List ℕ → Command            -- a stamp, words
-  branch : List ℕ → Command                -- a new branch from here
-  go-to : List ℕ → Command                 -- a branch
+  commit : ℕ → List ℕ → Command  -- a stamp, words
+  branch : List ℕ → Command  -- a new branch from here
+  go-to : List ℕ → Command  -- a branch
   history : Command
-  show-file : List ℕ → List ℕ → Command         -- a branch, a path
-  status : Command                           -- what differs from the last commit
-  read-file : List ℕ → Command                  -- a path, as it is in work
-  join : List ℕ → Command                  -- a branch
-  settle : List ℕ → Command                -- a path that clashes, as it stands
-  leave : Command                          -- work and joining given up
-  move-onto : List ℕ → Command             -- our commits once more, on top of a branch
-  carry : List ℕ → Command                  -- one commit by its id, once more here
-  forget : List ℕ → Command                -- a branch
-  tag : List ℕ → Command                   -- a name that stays with this commit
-  who : List ℕ → Command                   -- which commit a path is from
+  show-file : List ℕ → List ℕ → Command  -- a branch, a path
+  status : Command  -- what differs from the last commit
+  read-file : List ℕ → Command  -- a path, as it is in work
+  join : List ℕ → Command  -- a branch
+  settle : List ℕ → Command  -- a path that clashes, as it stands
+  leave : Command  -- work and joining given up
+  move-onto : List ℕ → Command  -- our commits once more, on top of a branch
+  carry : List ℕ → Command  -- one commit by its id, once more here
+  forget : List ℕ → Command  -- a branch
+  tag : List ℕ → Command  -- a name that stays with this commit
+  who : List ℕ → Command  -- which commit a path is from
   sweep : Command
-  fetch : ℕ → Command                      -- from another house
+  fetch : ℕ → Command  -- from another house
 
 unfoldable pub spelled : Command → List ℕ
 spelled (write-file p b) = 1 ∷ with-length p ++ with-length b

@@ -1,3 +1,5 @@
+pub mod bytes;
+
 // A stand-in.
 pub fn version() -> u8 {
     0
