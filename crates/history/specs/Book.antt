@@ -10,7 +10,7 @@ use Rattle.pages.specs.Bytes.{eight, with-length}
 use Rattle.trees.specs.Tree.{Tree, File, same-tree}
 
 pub record Commit : Type 0 where
-  pub parents : List ℕ        -- numbers of commits, all lower than its own
+  pub parents : List ℕ  -- numbers of commits, all lower than its own
   pub tree : Tree
   pub stamp : ℕ
   pub words : List ℕ

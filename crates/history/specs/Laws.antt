@@ -23,7 +23,7 @@ Log-order =
     ((j : ℕ) → has (log sum b (k ∷ [])) j ≡ has (back b (k ∷ [])) j)
     × (length (log sum b (k ∷ [])) ≡ length (back b (k ∷ [])))
     × ((i j : ℕ) → i < j → j < length (log sum b (k ∷ [])) →
-        under b (nth-or 0 (log sum b (k ∷ [])) i) (nth-or 0 (log sum b (k ∷ [])) j) ≡ false)
+    under b (nth-or 0 (log sum b (k ∷ [])) i) (nth-or 0 (log sum b (k ∷ [])) j) ≡ false)
 
 -- The latest that two come from: the same from either side; if one comes from the other, that other alone; and everything common comes to one of them.
 unfoldable pub Latest-right : Type 0

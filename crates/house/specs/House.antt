@@ -18,18 +18,18 @@ pub record Ref : Type 0 where
 pub record Clone : Type 0 where
   pub branches : List Ref
   pub tags : List Ref
-  pub others : List Ref            -- branches of other houses, as they were when fetched: the house's number before the name
-  pub here : List ℕ                -- the branch on which one works; it may have no commit yet
+  pub others : List Ref  -- branches of other houses, as they were when fetched: the house's number before the name
+  pub here : List ℕ  -- the branch on which one works; it may have no commit yet
   pub work : Tree
-  pub joining : List ℕ             -- the commit that is being joined, if one is
-  pub unsettled : List (List ℕ)    -- paths that clash
+  pub joining : List ℕ  -- the commit that is being joined, if one is
+  pub unsettled : List (List ℕ)  -- paths that clash
 
 pub record Plain : Type 0 where
   pub book : Book
   pub clones : List Clone
 
 pub record Turn : Type 0 where
-  pub reply : ℕ                    -- 0 done, otherwise the number of the refusal
+  pub reply : ℕ  -- 0 done, otherwise the number of the refusal
   pub shows : List (List ℕ)
   pub next : Plain
 
@@ -103,10 +103,10 @@ carried-tree b at k = joined (parent-tree b k ∷ []) (nth b at .tree) (nth b k 
 unfoldable pub carry-one : Way → ℕ → Way
 carry-one v k =
     pick (none-of (clashes (parent-tree (v .book) k ∷ []) (nth (v .book) (v .at) .tree) (nth (v .book) k .tree)) && leb (length (carried-tree (v .book) (v .at) k)) 4096)
-        (pick (same-tree (carried-tree (v .book) (v .at) k) (nth (v .book) (v .at) .tree)) v
-            (let c : Commit = record { parents = v .at ∷ []; tree = carried-tree (v .book) (v .at) k; stamp = nth (v .book) k .stamp; words = nth (v .book) k .words } in
-             record { book = noted c (v .book); at = place c (v .book); made = (v .made) ++ place c (v .book) ∷ []; well = v .well }))
-        (record { book = v .book; at = v .at; made = v .made; well = false })
+    (pick (same-tree (carried-tree (v .book) (v .at) k) (nth (v .book) (v .at) .tree)) v
+    (let c : Commit = record { parents = v .at ∷ []; tree = carried-tree (v .book) (v .at) k; stamp = nth (v .book) k .stamp; words = nth (v .book) k .words } in
+    record { book = noted c (v .book); at = place c (v .book); made = (v .made) ++ place c (v .book) ∷ []; well = v .well }))
+    (record { book = v .book; at = v .at; made = v .made; well = false })
 
 unfoldable pub carry-all : Way → List ℕ → Way
 carry-all v [] = v
@@ -132,7 +132,7 @@ by-id sum b i ks = those (λ k. same (id sum b k) i) ks
 unfoldable pub mark : Tree → Tree → List ℕ → List (List ℕ)
 mark old now p =
     pick (alike (found old p) (found now p)) []
-        ((pick (none-of (found old p)) 1 (pick (none-of (found now p)) 3 2) ∷ p) ∷ [])
+    ((pick (none-of (found old p)) 1 (pick (none-of (found now p)) 3 2) ∷ p) ∷ [])
 
 -- the commits in a history from which a path is as it is
 abbrev pub makers : Book → List ℕ → List (List ℕ) → List ℕ → List ℕ
@@ -158,19 +158,19 @@ turn sum w c x (commit s ws) =
     let b : Book = w .book in
     let new : Commit = record { parents = tip x ++ (x .joining); tree = x .work; stamp = s; words = ws } in
     pick (none-of (x .unsettled))
-        (pick (same-tree (x .work) (tree-of b (tip x)) && none-of (x .joining)) (no 7 w)
-            (yes-with (id sum (noted new b) (place new b) ∷ []) (noted new b) w c (moved (noted new b) x (place new b))))
-        (no 6 w)
+    (pick (same-tree (x .work) (tree-of b (tip x)) && none-of (x .joining)) (no 7 w)
+    (yes-with (id sum (noted new b) (place new b) ∷ []) (noted new b) w c (moved (noted new b) x (place new b))))
+    (no 6 w)
 turn sum w c x (branch n) =
     pick (none-of (ref-of ((x .branches) ++ (x .tags)) n) && not (same n (x .here)))
-        (pick (none-of (tip x)) (no 3 w)
-            (yes-with [] (w .book) w c (record { branches = set-ref n (first-or 0 (tip x)) (x .branches); tags = x .tags; others = x .others; here = x .here; work = x .work; joining = x .joining; unsettled = x .unsettled })))
-        (no 4 w)
+    (pick (none-of (tip x)) (no 3 w)
+    (yes-with [] (w .book) w c (record { branches = set-ref n (first-or 0 (tip x)) (x .branches); tags = x .tags; others = x .others; here = x .here; work = x .work; joining = x .joining; unsettled = x .unsettled })))
+    (no 4 w)
 turn sum w c x (go-to n) =
     pick (none-of (ref-of (x .branches) n)) (no 3 w)
-        (pick (clean (w .book) x)
-            (yes-with [] (w .book) w c (record { branches = x .branches; tags = x .tags; others = x .others; here = n; work = tree-of (w .book) (ref-of (x .branches) n); joining = []; unsettled = [] }))
-            (no 5 w))
+    (pick (clean (w .book) x)
+    (yes-with [] (w .book) w c (record { branches = x .branches; tags = x .tags; others = x .others; here = n; work = tree-of (w .book) (ref-of (x .branches) n); joining = []; unsettled = [] }))
+    (no 5 w))
 turn sum w c x history = yes-with (each (line sum (w .book)) (log sum (w .book) (tip x))) (w .book) w c x
 turn sum w c x (show-file n p) =
     pick (none-of (found (tree-of (w .book) (ref-of (all-refs x) n)) p)) (no 3 w) (yes-with (found (tree-of (w .book) (ref-of (all-refs x) n)) p) (w .book) w c x)
@@ -183,15 +183,15 @@ turn sum w c x (join n) =
     let j : ℕ = first-or 0 js in
     let k : ℕ = first-or 0 (tip x) in
     pick (or (none-of js) (none-of (tip x))) (no 3 w)
-        (pick (clean b x)
-            (pick (under b j k) (no 7 w)
-                (pick (under b k j) (yes-with (id sum b j ∷ []) b w c (moved b x j))
-                    (let bases : List Tree = pick (none-of (latest-common b j k)) ([] ∷ []) (each (λ i. nth b i .tree) (latest-common b j k)) in
-                     let ours : Tree = nth b k .tree in
-                     let theirs : Tree = nth b j .tree in
-                     pick (ltb 4096 (length (joined bases ours theirs))) (no 10 w)
-                        (yes-with (clashes bases ours theirs) b w c (with-work x (joined bases ours theirs) (j ∷ []) (clashes bases ours theirs))))))
-            (no 5 w))
+    (pick (clean b x)
+    (pick (under b j k) (no 7 w)
+    (pick (under b k j) (yes-with (id sum b j ∷ []) b w c (moved b x j))
+    (let bases : List Tree = pick (none-of (latest-common b j k)) ([] ∷ []) (each (λ i. nth b i .tree) (latest-common b j k)) in
+    let ours : Tree = nth b k .tree in
+    let theirs : Tree = nth b j .tree in
+    pick (ltb 4096 (length (joined bases ours theirs))) (no 10 w)
+    (yes-with (clashes bases ours theirs) b w c (with-work x (joined bases ours theirs) (j ∷ []) (clashes bases ours theirs))))))
+    (no 5 w))
 turn sum w c x (settle p) =
     pick (any (λ q. same q p) (x .unsettled)) (yes-with [] (w .book) w c (with-work x (x .work) (x .joining) (drop-path p (x .unsettled)))) (no 6 w)
 turn sum w c x leave = yes-with [] (w .book) w c (with-work x (tree-of (w .book) (tip x)) [] [])
@@ -203,13 +203,13 @@ turn sum w c x (move-onto n) =
     let mine : List ℕ = ours-alone (length b) b j (k ∷ []) in
     let v : Way = carry-all (record { book = b; at = j; made = []; well = true }) mine in
     pick (or (none-of js) (none-of (tip x))) (no 3 w)
-        (pick (clean b x)
-            (pick (under b j k) (no 7 w)
-                (pick (under b k j) (yes-with (id sum b j ∷ []) b w c (moved b x j))
-                    (pick (single b mine && (v .well))
-                        (yes-with (each (id sum (v .book)) (v .made)) (v .book) w c (moved (v .book) x (v .at)))
-                        (no 6 w))))
-            (no 5 w))
+    (pick (clean b x)
+    (pick (under b j k) (no 7 w)
+    (pick (under b k j) (yes-with (id sum b j ∷ []) b w c (moved b x j))
+    (pick (single b mine && (v .well))
+    (yes-with (each (id sum (v .book)) (v .made)) (v .book) w c (moved (v .book) x (v .at)))
+    (no 6 w))))
+    (no 5 w))
 turn sum w c x (carry i) =
     let b : Book = w .book in
     let js : List ℕ = by-id sum b i (reached b x) in
@@ -217,20 +217,20 @@ turn sum w c x (carry i) =
     let k : ℕ = first-or 0 (tip x) in
     let v : Way = carry-one (record { book = b; at = k; made = []; well = true }) j in
     pick (or (none-of js) (none-of (tip x))) (no 3 w)
-        (pick (clean b x)
-            (pick (single b (j ∷ []) && (v .well))
-                (pick (none-of (v .made)) (no 7 w) (yes-with (each (id sum (v .book)) (v .made)) (v .book) w c (moved (v .book) x (v .at))))
-                (no 6 w))
-            (no 5 w))
+    (pick (clean b x)
+    (pick (single b (j ∷ []) && (v .well))
+    (pick (none-of (v .made)) (no 7 w) (yes-with (each (id sum (v .book)) (v .made)) (v .book) w c (moved (v .book) x (v .at))))
+    (no 6 w))
+    (no 5 w))
 turn sum w c x (forget n) =
     pick (none-of (ref-of (x .branches) n)) (no 3 w)
-        (pick (same n (x .here)) (no 6 w)
-            (yes-with [] (w .book) w c (record { branches = without-ref n (x .branches); tags = x .tags; others = x .others; here = x .here; work = x .work; joining = x .joining; unsettled = x .unsettled })))
+    (pick (same n (x .here)) (no 6 w)
+    (yes-with [] (w .book) w c (record { branches = without-ref n (x .branches); tags = x .tags; others = x .others; here = x .here; work = x .work; joining = x .joining; unsettled = x .unsettled })))
 turn sum w c x (tag n) =
     pick (none-of (ref-of ((x .branches) ++ (x .tags)) n) && not (same n (x .here)))
-        (pick (none-of (tip x)) (no 3 w)
-            (yes-with [] (w .book) w c (record { branches = x .branches; tags = set-ref n (first-or 0 (tip x)) (x .tags); others = x .others; here = x .here; work = x .work; joining = x .joining; unsettled = x .unsettled })))
-        (no 4 w)
+    (pick (none-of (tip x)) (no 3 w)
+    (yes-with [] (w .book) w c (record { branches = x .branches; tags = set-ref n (first-or 0 (tip x)) (x .tags); others = x .others; here = x .here; work = x .work; joining = x .joining; unsettled = x .unsettled })))
+    (no 4 w)
 turn sum w c x (who p) =
     let b : Book = w .book in
     let f : List (List ℕ) = found (tree-of b (tip x)) p in
@@ -238,8 +238,8 @@ turn sum w c x (who p) =
 turn sum w c x sweep = yes-with [] (w .book) w c x
 turn sum w c x (fetch d) =
     pick (ltb d (length (w .clones)) && not (eqb d c))
-        (yes-with [] (w .book) w c (record { branches = x .branches; tags = x .tags; others = those (λ r. not (is-far d r)) (x .others) ++ each (far d) (clone-at (w .clones) d .branches); here = x .here; work = x .work; joining = x .joining; unsettled = x .unsettled }))
-        (no 3 w)
+    (yes-with [] (w .book) w c (record { branches = x .branches; tags = x .tags; others = those (λ r. not (is-far d r)) (x .others) ++ each (far d) (clone-at (w .clones) d .branches); here = x .here; work = x .work; joining = x .joining; unsettled = x .unsettled }))
+    (no 3 w)
 
 -- how much there is to keep, in bytes: each different file once, each commit, each line of its tree
 unfoldable pub tree-weight : Tree → ℕ

@@ -25,7 +25,7 @@ unfoldable pub Carried-joined : Type 0
 Carried-joined =
     (b : Book) (i j : ℕ) (ks : List ℕ) → j < length b → chain b i ks ≡ true →
     ((p : List ℕ) → or (alike (found (nth b j .tree) p) (found (nth b i .tree) p))
-        (every (λ k. alike (found (nth b k .tree) p) (found (nth b i .tree) p)) ks) ≡ true) →
+    (every (λ k. alike (found (nth b k .tree) p) (found (nth b i .tree) p)) ks) ≡ true) →
     every (λ k. rising-paths (nth b k .tree) && leb (length (both (nth b j .tree) (nth b k .tree))) 4096) (j ∷ ks) ≡ true →
     let v : Way = carry-all (record { book = b; at = j; made = []; well = true }) ks in
     (v .well ≡ true)

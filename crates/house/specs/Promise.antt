@@ -4,7 +4,7 @@ use mathlib.Core.Bool.{Bool, true, false, _&&_, not}
 use mathlib.Core.List.{List, [], _∷_, _++_}
 use Prim.Native.Nat.{ℕ, zero, suc, _+_, _*_, _-_, _/_, _%_, _≤_, _<_}
 use lib.Dec.{eqb, ltb, leb}
-use lib.ListN.{length, getD, take, drop}
+use lib.ListN.{length, getD, set}
 use mathlib.Core.Logic.{_⊎_}
 use Rattle.pages.specs.Lists.{pick, or, every, any, each, flat, same, has, so-many, distinct, added-up}
 use Rattle.pages.specs.Bytes.{from-bytes}
@@ -47,9 +47,9 @@ unfoldable pub Known-allowed : ℕ → ℕ → Bool → Plain → ℕ → Comman
 Known-allowed pages ls other-up w c a t ss reply w₁ =
     ((reply ≡ t .reply) × (ss ≡ t .shows) × (w₁ ≡ t .next))
     ⊎ (((reply ≡ 8) × (ss ≡ []) × (w₁ ≡ w) × (t .reply ≡ 0) × (weight (w .book) (clone-at (w .clones) c) < weight (t .next .book) (clone-at (t .next .clones) c))
-        × (128 * pages < weight (t .next .book) (clone-at (t .next .clones) c)))
+    × (128 * pages < weight (t .next .book) (clone-at (t .next .clones) c)))
     ⊎ ((reply ≡ 9) × (ss ≡ []) × (w₁ ≡ w) × (d : ℕ) × (a ≡ fetch d) × (t .reply ≡ 0)
-        × ((other-up ≡ false) ⊎ (ls < letters (w .book) (clone-at (w .clones) c) (clone-at (w .clones) d)))))
+    × ((other-up ≡ false) ⊎ (ls < letters (w .book) (clone-at (w .clones) c) (clone-at (w .clones) d)))))
 
 unfoldable pub Allowed : Sum → (Command → Bool) → ℕ → ℕ → Bool → Plain → ℕ → List ℕ → List (List ℕ) → ℕ → Plain → Type 0
 Allowed sum known pages ls other-up w c text ss reply w₁ =
@@ -65,15 +65,12 @@ pub data Item : Type 0 where
   whole : ℕ → List ℕ → ℕ → Item
   stops : ℕ → List ℕ → ℕ → ℕ → List ℕ → Item
 
-unfoldable pub flag : List Bool → ℕ → Bool
-flag [] c = false
-flag (u ∷ us) zero = u
-flag (u ∷ us) (suc c) = flag us c
+-- which houses have power
+abbrev pub flag : List Bool → ℕ → Bool
+flag us c = getD us c false
 
-unfoldable pub set-flag : List Bool → ℕ → Bool → List Bool
-set-flag [] c v = []
-set-flag (u ∷ us) zero v = v ∷ us
-set-flag (u ∷ us) (suc c) v = u ∷ set-flag us c v
+abbrev pub set-flag : List Bool → ℕ → Bool → List Bool
+set-flag us c u = set us c u
 
 unfoldable pub not-up : List Bool → ℕ → Bool
 not-up us c = ltb c (length us) && pick (flag us c) false true
@@ -89,15 +86,11 @@ proper us (stops c t ls n cs ∷ is) = flag us c && proper (set-flag us c false)
 abbrev pub no-world : World
 no-world = record { device = record { pages = []; queue = [] }; memory = []; up = false }
 
-unfoldable pub world-at : List World → ℕ → World
-world-at [] c = no-world
-world-at (v ∷ vs) zero = v
-world-at (v ∷ vs) (suc c) = world-at vs c
+abbrev pub world-at : List World → ℕ → World
+world-at vs c = getD vs c no-world
 
-unfoldable pub set-world : List World → ℕ → World → List World
-set-world [] c v = []
-set-world (u ∷ us) zero v = v ∷ us
-set-world (u ∷ us) (suc c) v = u ∷ set-world us c v
+abbrev pub set-world : List World → ℕ → World → List World
+set-world vs c v = set vs c v
 
 -- the other house of a command: the one fetched from; none for other commands, or one that isn't there
 unfoldable pub peer : ℕ → List ℕ → ℕ
@@ -151,9 +144,9 @@ Right sum known e pages vs w (stops c text ls n cs ∷ is) =
     Still-apart sum w c text →
     (w₁ : Plain)
     × (Allowed sum known pages ls (world-at vs (peer c text) .up) w c text (ran-as e n vs c text ls .showed) (ran-as e n vs c text ls .end) w₁
-        ⊎ ((ran-as e n vs c text ls .end ≡ 1000) × (more : List (List ℕ)) × (reply : ℕ) × (w₂ : Plain)
-            × Allowed sum known pages ls (world-at vs (peer c text) .up) w c text (ran-as e n vs c text ls .showed ++ more) reply w₂
-            × ((w₁ ≡ w) ⊎ (w₁ ≡ w₂))))
+    ⊎ ((ran-as e n vs c text ls .end ≡ 1000) × (more : List (List ℕ)) × (reply : ℕ) × (w₂ : Plain)
+    × Allowed sum known pages ls (world-at vs (peer c text) .up) w c text (ran-as e n vs c text ls .showed ++ more) reply w₂
+    × ((w₁ ≡ w) ⊎ (w₁ ≡ w₂))))
     × Right sum known e pages (worlds-after vs c text (ran-as e n vs c text ls) (dark (ran-as e n vs c text ls .here) cs)) w₁ is
 
 abbrev pub new-world : ℕ → World
@@ -174,4 +167,4 @@ Whole known e =
     (sum : Sum) → ((bs : List ℕ) → (length (sum bs) ≡ 32) × (every (λ b. ltb b 256) (sum bs) ≡ true)) →
     Steady (e sum)
     × ((houses pages : ℕ) (is : List Item) → houses ≤ 16 → 64 ≤ pages → pages ≤ 1048576 → length is ≤ 4294967296 → proper (so-many houses false) is ≡ true →
-        Right sum known (e sum) pages (so-many houses (new-world pages)) (record { book = []; clones = so-many houses empty-clone }) is)
+    Right sum known (e sum) pages (so-many houses (new-world pages)) (record { book = []; clones = so-many houses empty-clone }) is)

@@ -24,4 +24,3 @@ from-bytes n (b ∷ bs) = from-bytes (256 * n + b) bs
 
 unfoldable pub all-bytes : List ℕ → Bool
 all-bytes bs = every (λ b. ltb b 256) bs
-

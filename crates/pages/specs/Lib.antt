@@ -2,4 +2,5 @@ pub mod Lists
 pub mod Bytes
 pub mod Device
 pub mod Run
+pub mod Crash
 pub mod Laws

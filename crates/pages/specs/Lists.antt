@@ -76,4 +76,3 @@ distinct (b ∷ bs) = pick (any (same b) bs) (distinct bs) (b ∷ distinct bs)
 unfoldable pub added-up : {A : Type 0} → (A → ℕ) → List A → ℕ
 added-up f [] = 0
 added-up f (x ∷ xs) = f x + added-up f xs
-

@@ -11,12 +11,12 @@ use Rattle.pages.specs.Device.{Device, Page, Write, read-page, flushed, a-page
 
 -- what the machine is told
 pub data Event : Type 0 where
-  on : ℕ → ℕ → ℕ → Event           -- power is there, memory is as at the start; the house's number, how many there are, how many pages it has
-  said : List ℕ → Event            -- a command
-  page : List ℕ → Event            -- the page that was asked for
-  next : Event                     -- the last act is done
-  heard : List ℕ → Event           -- another house's letter
-  lost : Event                     -- there is no line to the other house any more
+  on : ℕ → ℕ → ℕ → Event  -- power is there, memory is as at the start; the house's number, how many there are, how many pages it has
+  said : List ℕ → Event  -- a command
+  page : List ℕ → Event  -- the page that was asked for
+  next : Event  -- the last act is done
+  heard : List ℕ → Event  -- another house's letter
+  lost : Event  -- there is no line to the other house any more
 
 -- what it does
 pub data Act : Type 0 where
@@ -24,7 +24,7 @@ pub data Act : Type 0 where
   write : ℕ → List ℕ → Act
   flush : Act
   shows : List ℕ → Act
-  send : ℕ → List ℕ → Act          -- to a house, a letter of at most 4,096 bytes; or, by one who was written to, the reply
+  send : ℕ → List ℕ → Act  -- to a house, a letter of at most 4,096 bytes; or, by one who was written to, the reply
   done : Act
   refused : ℕ → Act
 
@@ -74,8 +74,8 @@ writable d k p = ltb k (length (d .pages)) && a-page p
 -- wrote doesn't stop it
 pub record Replied : Type 0 where
   pub world : World
-  pub letter : List (List ℕ)      -- none if there was no reply
-  pub cut : Bool                  -- its acts ran out
+  pub letter : List (List ℕ)  -- none if there was no reply
+  pub cut : Bool  -- its acts ran out
 
 abbrev pub a-letter : List ℕ → Bool
 a-letter l = leb (length l) 4096 && every (λ b. ltb b 256) l
@@ -126,4 +126,4 @@ unfoldable pub runs : ℕ → Engine → ℕ → ℕ → World → World → Eve
 runs zero e d ls w v ev ss = ran w v ss running
 runs (suc n) e d ls w v ev ss =
     one-act (λ ls₁ w₁ v₁ ev₁ ss₁. runs n e d ls₁ w₁ v₁ ev₁ ss₁) (λ ev₁. replies 16777216 e v ev₁) ls d w v ss
-        (e .step (w .memory) ev .memory) (e .step (w .memory) ev .act)
+    (e .step (w .memory) ev .memory) (e .step (w .memory) ev .act)

@@ -1,6 +1,3 @@
+// Pages that keep what is written through any stop.
 pub mod bytes;
-
-// A stand-in.
-pub fn version() -> u8 {
-    0
-}
+pub mod laws;

@@ -30,7 +30,7 @@ unfoldable pub put : List ℕ → List ℕ → Tree → Tree
 put p b [] = record { path = p; bytes = b } ∷ []
 put p b (f ∷ fs) =
     pick (same p (f .path)) (record { path = p; bytes = b } ∷ fs)
-        (pick (earlier p (f .path)) (record { path = p; bytes = b } ∷ f ∷ fs) (f ∷ put p b fs))
+    (pick (earlier p (f .path)) (record { path = p; bytes = b } ∷ f ∷ fs) (f ∷ put p b fs))
 
 unfoldable pub without : List ℕ → Tree → Tree
 without p [] = []
@@ -60,7 +60,7 @@ clash bases ours theirs p =
 unfoldable pub joined-at : List Tree → Tree → Tree → List ℕ → List (List ℕ)
 joined-at bases ours theirs p =
     pick (alike (found ours p) (found theirs p)) (found ours p)
-        (pick (changed bases (found ours p) p) (found ours p) (found theirs p))
+    (pick (changed bases (found ours p) p) (found ours p) (found theirs p))
 
 unfoldable pub joined-over : List Tree → Tree → Tree → List (List ℕ) → Tree → Tree
 joined-over bases ours theirs [] t = t

@@ -1,4 +1,2 @@
-// A stand-in.
-pub fn version() -> u8 {
-    0
-}
+// Trees of files, and how two of them are put together.
+pub mod laws;
