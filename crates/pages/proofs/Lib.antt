@@ -1,3 +1,4 @@
+pub mod BytesLaws
 pub mod Crash
 pub mod ListLaws
 pub mod DeviceLaws
