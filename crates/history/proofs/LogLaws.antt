@@ -97,10 +97,10 @@ left-but x ks = those-alike (λ k. not (has (x ∷ []) k)) (λ k. not (eqb x k))
     or-none true = refl
     or-none false = refl
 
-pub in-order-none : (n : ℕ) (sum : Sum) (b : Book) → Grown b → in-order n sum b [] ≡ []
+pub in-order-none : (n : ℕ) (sum : Sum) (b : Book) → in-order n sum b [] ≡ []
 unfolding in-order next-of
-in-order-none zero sum b g = refl
-in-order-none (suc n) sum b g = in-order-none n sum b g
+in-order-none zero sum b = refl
+in-order-none (suc n) sum b = in-order-none n sum b
 
 pub in-order-one : (n : ℕ) (sum : Sum) (b : Book) (ks : List ℕ) (x : ℕ) → next-of sum b (free b ks) ≡ x ∷ [] →
     in-order (suc n) sum b ks ≡ x ∷ in-order n sum b (those (λ k. not (eqb x k)) ks)
@@ -110,7 +110,7 @@ in-order-one n sum b ks x e =
 
 pub in-order-sorted : (n : ℕ) (sum : Sum) (b : Book) (ks : List ℕ) → Grown b → Once ks → length ks ≤ n → Sorted b ks (in-order n sum b ks)
 in-order-sorted n sum b [] g o l =
-    subst (λ z. Sorted b [] z) (sym (in-order-none n sum b g)) (record { from = λ j i. i; all = λ j i. i; long = refl; ordered = tt })
+    subst (λ z. Sorted b [] z) (sym (in-order-none n sum b)) (record { from = λ j i. i; all = λ j i. i; long = refl; ordered = tt })
 in-order-sorted zero sum b (k ∷ ks) g o l = absurd (omega arith)
 in-order-sorted (suc n) sum b (k ∷ ks) g o l = go (one-turn sum b (k ∷ ks) g) (in-order-sorted n sum b)
   where
