@@ -37,3 +37,10 @@ Latest-right =
 unfoldable pub Ids-tell : Type 0
 Ids-tell =
     (sum : Sum) (b : Book) (j k : ℕ) → clear sum b ≡ true → j < length b → k < length b → same (id sum b j) (id sum b k) ≡ true → j ≡ k
+
+-- What stands in the book stays as it is when more comes behind it: ids, what comes before a commit, its log.
+unfoldable pub Grows-behind : Type 0
+Grows-behind =
+    (sum : Sum) (b more : Book) → Grown b →
+    ((k : ℕ) → k < length b → (id sum (b ++ more) k ≡ id sum b k) × (log sum (b ++ more) (k ∷ []) ≡ log sum b (k ∷ [])))
+    × ((ks : List ℕ) → every (λ k. ltb k (length b)) ks ≡ true → back (b ++ more) ks ≡ back b ks)
