@@ -2,3 +2,5 @@ pub mod BytesLaws
 pub mod Crash
 pub mod ListLaws
 pub mod DeviceLaws
+pub mod WordLaws
+pub mod TapeLaws

@@ -6,3 +6,5 @@ pub mod Crash
 pub mod Laws
 pub mod Words
 pub mod Machine
+pub mod Engine
+pub mod Tape
