@@ -4,3 +4,4 @@ pub mod ListLaws
 pub mod DeviceLaws
 pub mod WordLaws
 pub mod TapeLaws
+pub mod EngineLaws

@@ -9,7 +9,9 @@ use lib.ListN.{length, getD, take, drop}
 use Rattle.pages.specs.Lists.{pick, zeros}
 use Rattle.pages.specs.Words.{small}
 use Rattle.pages.specs.Run.{Engine, Event, Step, done}
-use Rattle.pages.specs.Machine.{Program, Moved, served}
+use Rattle.pages.specs.Machine.{Asked, Program, Moved, served}
+use Rattle.pages.specs.declared.machine.Request.{Request}
+use Rattle.pages.specs.declared.machine.Request.the-variants.{Recall, Look, Object, Lay, Publish, Show, Finish}
 use Rattle.pages.specs.declared.machine.Serving.{Serving}
 use Rattle.pages.specs.declared.machine.Serving.the-variants.{Idle, Recalling, Looking, Opening, Laying, Flushing, Heading, Settling, Showing}
 use Rattle.pages.specs.declared.machine.Machine.{Machine}
@@ -65,6 +67,21 @@ stepped-in f m ev = stored f (served (f .program) (machine-in m) (f .load (take 
 unfoldable pub engine : {K : Type 0} → Housed K → Engine
 engine f = record { start = zeros memory-cells; step = λ m ev. pick (eqb (length m) memory-cells) (stepped-in f m ev) (record { memory = m; act = done }) }
 
+abbrev pub request-cells : Request → List ℕ
+request-cells Recall = []
+request-cells (Look at words) = at ∷ words ∷ []
+request-cells (Object at limit) = at ∷ limit ∷ []
+request-cells (Lay v pages) = v ∷ pages ∷ []
+request-cells Publish = []
+request-cells (Show bytes) = bytes ∷ []
+request-cells (Finish reply) = reply ∷ []
+
+-- all numbers that a client leaves are below 2^64
+pub record Small {K : Type 0} (f : Housed K) (a : Asked K) : Type 0 where
+  pub state : small (f .save (a .state)) ≡ true
+  pub memory : small (a .memory) ≡ true
+  pub request : small (request-cells (a .request)) ≡ true
+
 -- what is asked of a client: cells hold it, memory keeps its length, numbers stay below 2^64 whatever comes
 pub record Lawful {K : Type 0} (f : Housed K) : Type 0 where
   pub load-save : (k : K) → f .load (f .save k) ≡ k
@@ -72,10 +89,6 @@ pub record Lawful {K : Type 0} (f : Housed K) : Type 0 where
   pub load-small : (cs : List ℕ) → small cs ≡ true → small (f .save (f .load cs)) ≡ true
   pub wakes-small : (k : K) (c hs ps : ℕ) → small (f .save k) ≡ true → small (f .save (f .program .wakes k c hs ps)) ≡ true
   pub hears-length : (k : K) (m text : List ℕ) → length (f .program .hears k m text .memory) ≡ length m
-  pub hears-small :
-      (k : K) (m text : List ℕ) → small (f .save k) ≡ true → small m ≡ true →
-      (small (f .save (f .program .hears k m text .state)) ≡ true) × (small (f .program .hears k m text .memory) ≡ true)
+  pub hears-small : (k : K) (m text : List ℕ) → small (f .save k) ≡ true → small m ≡ true → Small f (f .program .hears k m text)
   pub resumes-length : (k : K) (m : List ℕ) → length (f .program .resumes k m .memory) ≡ length m
-  pub resumes-small :
-      (k : K) (m : List ℕ) → small (f .save k) ≡ true → small m ≡ true →
-      (small (f .save (f .program .resumes k m .state)) ≡ true) × (small (f .program .resumes k m .memory) ≡ true)
+  pub resumes-small : (k : K) (m : List ℕ) → small (f .save k) ≡ true → small m ≡ true → Small f (f .program .resumes k m)

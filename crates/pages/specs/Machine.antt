@@ -145,7 +145,7 @@ act-done p n k m Settling = begun n (p .resumes k m)
 act-done p n k m Showing = begun n (p .resumes k m)
 
 abbrev pub served : {K : Type 0} → Program K → Machine → K → List ℕ → Event → Moved K
-served p r k m (on c hs ps) = moved (max 1 (ps - 1)) Idle (p .wakes k c hs ps) m done
+served p r k m (on c hs ps) = moved (max 1 (capped ps - 1)) Idle (p .wakes k c hs ps) m done
 served p r k m (said text) = begun (r .ring) (p .hears k m text)
 served p r k m (page bytes) = page-came p (r .ring) k m (page-words bytes) (r .serving)
 served p r k m next = act-done p (r .ring) k m (r .serving)
