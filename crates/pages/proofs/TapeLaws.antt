@@ -3,7 +3,7 @@ use mathlib.Core.Path.{_≡_, refl, sym, ap, ap₂, subst, _∙_}
 use mathlib.Core.Bool.{Bool, true, false, _&&_}
 use mathlib.Core.List.{List, [], _∷_, _++_, append-nil, append-assoc}
 use mathlib.Core.Logic.{_⊎_, inl, inr, _≢_}
-use Prim.Native.Nat.{ℕ, zero, suc, _+_, _*_, _-_, _/_, _%_, _≤_, _<_}
+use Prim.Native.Nat.{ℕ, zero, suc, _+_, _*_, _-_, _/_, _%_, _^_, _≤_, _<_}
 use native.Mathlib.Nat.{mul-le-mul-left, mul-suc, mod-lt}
 use native.Mathlib.Omega.{arith}
 use lib.Dec.{eqb, ltb}
@@ -109,8 +109,8 @@ page-of-take t l v h b =
 
 -- WHAT IS HELD STAYS HELD
 pub tied-lay : (n : ℕ) (q : Bool) (d : Device) (h t : List ℕ) (laid : ℕ) (ws : List ℕ) → Tied n q d h t laid → suc laid ≤ first-page h + n →
-    length ws ≡ 64 → small ws ≡ true → Tied n q (queued d (place n laid) (bytes-of ws)) h (t ++ ws) (suc laid)
-tied-lay n q d h t laid ws td room l s =
+    64 * suc laid < 2 ^ 64 → length ws ≡ 64 → small ws ≡ true → Tied n q (queued d (place n laid) (bytes-of ws)) h (t ++ ws) (suc laid)
+tied-lay n q d h t laid ws td room bound l s =
     record
         { window =
             record
@@ -119,6 +119,7 @@ tied-lay n q d h t laid ws td room l s =
                 ; head-small = w .head-small
                 ; tape-length = omega (arith, length-append t ws, w .tape-length)
                 ; tape-small = small-append t ws (w .tape-small) s
+                ; bounded = bound
                 ; rising = w .rising
                 ; within = omega (arith, w .within)
                 ; room = room
@@ -182,6 +183,7 @@ tied-stopped n q d h t laid cs td =
                 ; head-small = w .head-small
                 ; tape-length = length-take-le (64 * last-page h) t inside
                 ; tape-small = small-take (64 * last-page h) t (w .tape-small)
+                ; bounded = omega (arith, w .within, w .bounded)
                 ; rising = w .rising
                 ; within = omega arith
                 ; room = omega (arith, w .within, w .room)
@@ -233,6 +235,7 @@ tied-head n q ps h t laid new page td up rise inside l s e =
                 ; head-small = s
                 ; tape-length = w .tape-length
                 ; tape-small = w .tape-small
+                ; bounded = w .bounded
                 ; rising = rise
                 ; within = inside
                 ; room = omega (arith, w .room)
