@@ -7,10 +7,11 @@ use native.Mathlib.Nat.{pow-le-pow-right, zero-add, suc-add}
 use native.Mathlib.Numerals.{add-one}
 use native.Mathlib.Omega.{arith}
 use borrow.Rule.Slice.PartMut.{putMid}
+use lib.Seq.{take-append-add}
 use lib.Dec.{eqb, ltb}
 use lib.ListN.{length, getD, take, drop, length-append, length-take, length-drop, take-append-drop}
 use Rattle.std.proofs.shelf.Tests.{ltb-true, lt-ltb, eq-eqb, eqb-true, and-parts, and-from}
-use Rattle.std.proofs.shelf.Lists.{take-at, drop-at, drop-drop, take-all, take-more, length-take-le}
+use Rattle.std.proofs.shelf.Lists.{take-at, drop-at, drop-drop, take-all, drop-more, take-append-le, length-take-le}
 use Rattle.pages.specs.Lists.{pick, every, flat, zeros}
 use Rattle.pages.specs.Bytes.{eight, in-bytes, from-bytes, all-bytes}
 use Rattle.pages.specs.Device.{Page, a-page}
@@ -194,17 +195,37 @@ words-more i bs = ap (λ n. words n bs) (add-one i) ∙ go i bs
         ap (λ xs. from-bytes 0 (take 8 bs) ∷ xs) (go i (drop 8 bs))
         ∙ ap (λ xs. from-bytes 0 (take 8 bs) ∷ (words i (drop 8 bs) ++ from-bytes 0 (take 8 xs) ∷ [])) (drop-drop (8 * i) 8 bs ∙ ap (λ n. drop n bs) e)
 
-pub put-more : (ws out was new : List ℕ) (i : ℕ) → i < length ws → 8 * length ws ≤ length was → out ≡ bytes-of (take i ws) ++ drop (8 * i) was →
-    new ≡ eight (getD ws i 0) → putMid (8 * i) (8 * i + 8 - 8 * i) out new ≡ bytes-of (take (i + 1) ws) ++ drop (8 * (i + 1)) was
+-- a part written right behind what was written before
+pub put-behind : (a k : ℕ) (front was new : List ℕ) → length front ≡ a → putMid a k (front ++ drop a was) new ≡ (front ++ new) ++ drop (a + k) was
+put-behind a k front was new l =
+    ap₂ (λ xs ys. xs ++ (new ++ drop k ys)) (take-at front (drop a was) a l) (drop-at front (drop a was) a l) ∙ ap (λ xs. front ++ (new ++ xs)) (drop-drop k a was)
+    ∙ sym (append-assoc front new (drop (a + k) was))
+
+length-front : (q : ℕ) (ws : List ℕ) → q ≤ length ws → length (bytes-of (take q ws)) ≡ 8 * q
+length-front q ws h = length-bytes-of (take q ws) ∙ ap (λ k. 8 * k) (length-take-le q ws h)
+
+-- the first bytes of words: whole words, and a part of the next
+pub bytes-front : (ws : List ℕ) (q r : ℕ) → q < length ws → r ≤ 8 → take (8 * q + r) (bytes-of ws) ≡ bytes-of (take q ws) ++ take r (eight (getD ws q 0))
 unfolding bytes-of
-put-more ws out was new i h b e n =
+bytes-front ws q r h b =
+    let front : List ℕ = bytes-of (take q ws) in
+    let x : ℕ = getD ws q 0 in
+    let rest : List ℕ = bytes-of (drop (q + 1) ws) in
+    ap₂ (λ n xs. take (n + r) xs) (sym (length-front q ws (omega arith)))
+    (ap bytes-of (sym (take-append-drop q ws)) ∙ bytes-of-append (take q ws) (drop q ws) ∙ ap (λ xs. front ++ bytes-of xs) (drop-more ws q 0 h))
+    ∙ take-append-add front (eight x ++ rest) r ∙ ap (λ xs. front ++ xs) (take-append-le r (eight x) rest (omega (arith, length-eight x)))
+
+pub bytes-whole : (ws : List ℕ) (q : ℕ) → q ≤ length ws → take (8 * q) (bytes-of ws) ≡ bytes-of (take q ws)
+bytes-whole ws q h =
+    ap (take (8 * q)) (ap bytes-of (sym (take-append-drop q ws)) ∙ bytes-of-append (take q ws) (drop q ws))
+    ∙ take-at (bytes-of (take q ws)) (bytes-of (drop q ws)) (8 * q) (length-front q ws h)
+
+pub put-more : (ws out was new : List ℕ) (i : ℕ) → i < length ws → out ≡ bytes-of (take i ws) ++ drop (8 * i) was → new ≡ eight (getD ws i 0) →
+    putMid (8 * i) (8 * i + 8 - 8 * i) out new ≡ bytes-of (take (i + 1) ws) ++ drop (8 * (i + 1)) was
+put-more ws out was new i h e n =
     let front : List ℕ = bytes-of (take i ws) in
-    let l : length front ≡ 8 * i = length-bytes-of (take i ws) ∙ ap (λ k. 8 * k) (length-take-le i ws (omega arith)) in
     let k : 8 * i + 8 - 8 * i ≡ 8 = omega arith in
     let s : 8 * i + 8 ≡ 8 * (i + 1) = omega arith in
-    ap₂ (λ xs j. take (8 * i) xs ++ (new ++ drop j (drop (8 * i) xs))) e k
-    ∙ ap₂ (λ xs ys. xs ++ (new ++ drop 8 ys)) (take-at front (drop (8 * i) was) (8 * i) l) (drop-at front (drop (8 * i) was) (8 * i) l)
-    ∙ ap₂ (λ xs ys. front ++ (xs ++ ys)) n (drop-drop 8 (8 * i) was ∙ ap (λ j. drop j was) s)
-    ∙ sym (append-assoc front (eight (getD ws i 0)) (drop (8 * (i + 1)) was))
-    ∙ ap (λ xs. xs ++ drop (8 * (i + 1)) was)
-      (ap (λ xs. front ++ xs) (sym (append-nil (eight (getD ws i 0)))) ∙ sym (bytes-of-append (take i ws) (getD ws i 0 ∷ [])) ∙ ap bytes-of (sym (take-more ws i 0 h)))
+    ap₂ (λ xs j. putMid (8 * i) j xs new) e k ∙ put-behind (8 * i) 8 front was new (length-front i ws (omega arith))
+    ∙ ap₂ (λ xs j. (front ++ xs) ++ drop j was) (n ∙ sym (take-all 8 (eight (getD ws i 0)) (omega (arith, length-eight (getD ws i 0))))) s
+    ∙ ap (λ xs. xs ++ drop (8 * (i + 1)) was) (sym (bytes-front ws i 8 h (omega arith)) ∙ ap (λ j. take j (bytes-of ws)) s ∙ bytes-whole ws (i + 1) (omega arith))

@@ -1,6 +1,7 @@
 -- The request machine: how a client's requests are served, one act at a time. Page 0 has the head; the pages behind it are a ring, on which virtual
 -- pages, counted from 0 and never wrapping, lie one after the other. Defined for every value of the registers and every event.
 -- Assumes nothing: these are definitions.
+use mathlib.Core.Path.{_≡_}
 use mathlib.Core.Bool.{Bool, true, false}
 use mathlib.Core.List.{List, [], _∷_, _++_}
 use Prim.Native.Nat.{ℕ, zero, suc, _+_, _*_, _-_, _/_, _%_, min, max}
@@ -9,6 +10,8 @@ use lib.ListN.{length, getD, take, drop}
 use Rattle.pages.specs.Lists.{pick, or, zeros}
 use Rattle.pages.specs.Words.{bytes-of, page-words, over}
 use Rattle.pages.specs.Run.{Event, on, said, page, next, heard, lost, Act, read, write, flush, shows, done, refused}
+use Rattle.pages.specs.Told.{Act-told}
+use Rattle.pages.specs.declared.told.Told.{Told}
 use Rattle.pages.specs.declared.machine.Request.{Request}
 use Rattle.pages.specs.declared.machine.Request.the-variants.{Recall, Look, Object, Lay, Publish, Show, Finish}
 use Rattle.pages.specs.declared.machine.Serving.{Serving}
@@ -29,6 +32,9 @@ pub record Program (K : Type 0) : Type 0 where
   pub wakes : K → ℕ → ℕ → ℕ → K
   pub hears : K → List ℕ → List ℕ → Asked K
   pub resumes : K → List ℕ → Asked K
+
+abbrev pub program : {K : Type 0} → (K → ℕ → ℕ → ℕ → K) → (K → List ℕ → List ℕ → Asked K) → (K → List ℕ → Asked K) → Program K
+program w h r = record { wakes = w; hears = h; resumes = r }
 
 -- the words of the buffer, at the front of memory; a row that is shown has at most 131,072 bytes
 abbrev pub buffer-words : ℕ
@@ -83,6 +89,13 @@ first-act n m (Finish reply) = ended reply
 
 abbrev pub begun : {K : Type 0} → ℕ → Asked K → Moved K
 begun n a = moved n (first-serving (a .request)) (a .state) (a .memory) (first-act n (a .memory) (a .request))
+
+-- what the code leaves after a step, and tells
+pub record Moves {K : Type 0} (v : Moved K) (machine : Machine) (state : K) (memory : List ℕ) (told : Told) (out out₁ : List ℕ) : Type 0 where
+  pub machine-is : machine ≡ v .machine
+  pub state-is : state ≡ v .state
+  pub memory-is : memory ≡ v .memory
+  pub act-is : Act-told (v .act) told out out₁
 
 -- words of a page that came, as far as they are wanted: whether that is all, what is still wanted, and memory
 pub record Looked : Type 0 where

@@ -1,4 +1,19 @@
 // The request machine: it serves a client's requests by acts on the device, one act at a time.
+ghost use mathlib.Core.Bool.{true};
+ghost use mathlib.Core.List.{List, _++_};
+ghost use mathlib.Core.Path.{_≡_};
+ghost use Prim.Native.Nat.{ℕ, _≤_};
+ghost use lib.ListN.{length, take, drop};
+ghost use Rattle.pages.specs.Machine.{Asked, asked, place, first-serving, first-act, buffer-words, row-bytes};
+ghost use Rattle.pages.specs.Told.{Act-told};
+use crate::told::Told;
+use crate::words::put_words;
+
+// The words of the buffer, at the front of a client's memory.
+pub const BUFFER: usize = 41_088;
+
+// The most bytes of a row that is shown.
+pub const ROW: usize = 131_072;
 
 // What a client may ask for.
 #[derive(Clone, Copy)]
@@ -41,4 +56,47 @@ pub enum Serving {
 pub struct Machine {
     pub ring: u64,
     pub serving: Serving,
+}
+
+// A program over the tape. Memory begins with the buffer, where what is asked for comes, and from where pages are laid and rows are shown.
+pub trait Client {
+    ghost wakes: { Self → ℕ → ℕ → ℕ → Self };
+
+    ghost hears: { Self → List ℕ → List ℕ → Asked Self };
+
+    ghost resumes: { Self → List ℕ → Asked Self };
+
+    // Power comes.
+    fn wake(&mut self, house: u64, houses: u64, pages: u64)
+        ensures { λ _. ⌜ now (self .exit) ≡ wakes (now (self .entry)) house houses pages ⌝ };
+
+    // A command is said.
+    fn hear(&mut self, memory: &mut [u64], text: &[u8]) -> Request
+        ensures { λ r. ⌜ asked (now (self .exit)) (now (memory .exit)) r ≡ hears (now (self .entry)) (now (memory .entry)) (now (text .entry)) ⌝ };
+
+    // What was asked for is done.
+    fn resume(&mut self, memory: &mut [u64]) -> Request
+        ensures { λ r. ⌜ asked (now (self .exit)) (now (memory .exit)) r ≡ resumes (now (self .entry)) (now (memory .entry)) ⌝ };
+}
+
+// The page of a virtual page.
+fn place_of(ring: u64, page: u64) -> u64
+    ensures { λ r. ⌜ r ≡ place ring page ⌝ }
+{
+    if ring == 0 { 1 } else { 1 + page % ring }
+}
+
+// What is served from a request's first act on.
+fn serving_of(request: Request) -> Serving
+    ensures { λ r. ⌜ r ≡ first-serving request ⌝ }
+{
+    match request {
+        Request::Recall => Serving::Recalling,
+        Request::Look { at, words } => Serving::Looking { at, left: words.min(41_088), got: 0 },
+        Request::Object { at, limit } => Serving::Opening { at, limit },
+        Request::Lay { page, pages } => Serving::Laying { page, left: pages.saturating_sub(1).min(641), from: 64 },
+        Request::Publish => Serving::Flushing,
+        Request::Show { bytes: _ } => Serving::Showing,
+        Request::Finish { reply: _ } => Serving::Idle,
+    }
 }

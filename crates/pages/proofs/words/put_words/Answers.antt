@@ -14,7 +14,7 @@ loop-i-holds c = refl
 
 pub loop-i-again : need.loop-i-again
 loop-i-again c =
-    put-more (c .args .words .now) (c .loop-i .out) (c .args .out .now) (c .copy-from-slice .last .self) (c .loop-i .i) (omega arith) (c .pre) (c .loop-i .inv)
+    put-more (c .args .words .now) (c .loop-i .out) (c .args .out .now) (c .copy-from-slice .last .self) (c .loop-i .i) (omega arith) (c .loop-i .inv)
     (c .copy-from-slice .ensures .after ∙ c .in-eight .ensures)
 
 pub returns : need.returns
