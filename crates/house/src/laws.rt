@@ -1,0 +1,30 @@
+// Laws of the plain houses: theorems about the definitions in specs/, each on the contract of a function that does nothing else.
+ghost use Rattle.house.specs.Laws.{Apart, Reach-once, Weight-by-reach, Weight-stays};
+
+// What is done at one house changes no other, and the book only grows.
+pub fn houses_are_apart() -> u8
+    ensures { λ _. ⌜ Apart ⌝ }
+{
+    0
+}
+
+// What a house can reach has each commit once.
+pub fn reached_once() -> u8
+    ensures { λ _. ⌜ Reach-once ⌝ }
+{
+    0
+}
+
+// What a house has to keep depends on what it can reach and has in work, and on no order.
+pub fn weighs_what_it_reaches() -> u8
+    ensures { λ _. ⌜ Weight-by-reach ⌝ }
+{
+    0
+}
+
+// What a house can reach and has to keep stays as it is when the book grows.
+pub fn weight_stays() -> u8
+    ensures { λ _. ⌜ Weight-stays ⌝ }
+{
+    0
+}
