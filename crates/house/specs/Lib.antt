@@ -1,3 +1,4 @@
 pub mod House
 pub mod Promise
 pub mod Laws
+pub mod Facts

@@ -1,5 +1,6 @@
 // Laws of the plain houses: theorems about the definitions in specs/, each on the contract of a function that does nothing else.
 ghost use Rattle.house.specs.Laws.{Apart, Reach-once, Weight-by-reach, Weight-stays};
+ghost use Rattle.house.specs.Facts.{Stays-fine};
 
 // What is done at one house changes no other, and the book only grows.
 pub fn houses_are_apart() -> u8
@@ -25,6 +26,13 @@ pub fn weighs_what_it_reaches() -> u8
 // What a house can reach and has to keep stays as it is when the book grows.
 pub fn weight_stays() -> u8
     ensures { λ _. ⌜ Weight-stays ⌝ }
+{
+    0
+}
+
+// Houses are fine at the start, and every turn of a command that fits keeps them so.
+pub fn houses_stay_fine() -> u8
+    ensures { λ _. ⌜ Stays-fine ⌝ }
 {
     0
 }

@@ -398,3 +398,36 @@ those-append p (x ∷ xs) ys = go (p x) (those-append p xs ys)
 pub each-append : {A B : Type 0} (f : A → B) (xs ys : List A) → each f (xs ++ ys) ≡ each f xs ++ each f ys
 each-append f [] ys = refl
 each-append f (x ∷ xs) ys = ap (λ l. f x ∷ l) (each-append f xs ys)
+
+-- EVERY AND ONCE THROUGH THOSE, EACH AND ++
+
+pub every-those : {A : Type 0} (q p : A → Bool) (xs : List A) → every q xs ≡ true → every q (those p xs) ≡ true
+every-those q p xs h = every-from q (those p xs) (λ x i. every-in q xs h x (those-in p xs x i .0))
+
+pub every-each : {A B : Type 0} (q : B → Bool) (f : A → B) (xs : List A) → every (λ x. q (f x)) xs ≡ true → every q (each f xs) ≡ true
+every-each q f [] h = refl
+every-each q f (x ∷ xs) h = and-from _ _ (and-parts (q (f x)) _ h .0) (every-each q f xs (and-parts (q (f x)) _ h .1))
+
+pub once-each-those : {A B : Type 0} (f : A → B) (p : A → Bool) (xs : List A) → Once (each f xs) → Once (each f (those p xs))
+once-each-those f p [] o = tt
+once-each-those f p (x ∷ xs) o =
+    pick-both (λ l. Once (each f l)) (p x) (x ∷ those p xs) (those p xs)
+    (λ _. (
+      λ i. let r : (y : _) × In y (those p xs) × (f y ≡ f x) = each-in f (those p xs) (f x) i in
+          o .0 (subst (λ z. In z (each f xs)) (r .2) (in-each f xs (r .0) (those-in p xs (r .0) (r .1) .0))),
+      once-each-those f p xs (o .1),
+    ))
+    (λ _. once-each-those f p xs (o .1))
+
+pub once-append : {A : Type 0} (xs ys : List A) → Once xs → Once ys → ((x : A) → In x xs → In x ys → ⊥) → Once (xs ++ ys)
+once-append [] ys o q n = q
+once-append (x ∷ xs) ys o q n =
+    (λ i. ⊎-elim (λ l. o .0 l) (λ r. n x (inl refl) r) (in-append x xs ys i), once-append xs ys (o .1) q (λ y i k. n y (inr i) k))
+
+pub or-parts : (s t : Bool) → or s t ≡ false → (s ≡ false) × (t ≡ false)
+or-parts true t e = absurd (true≢false e)
+or-parts false t e = (refl, e)
+
+pub first-or-every : (p : ℕ → Bool) (d : ℕ) (ks : List ℕ) → none-of ks ≡ false → every p ks ≡ true → p (first-or d ks) ≡ true
+first-or-every p d [] n h = absurd (true≢false n)
+first-or-every p d (k ∷ ks) n h = and-parts (p k) (every p ks) h .0
