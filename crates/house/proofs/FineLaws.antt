@@ -177,8 +177,10 @@ pub far-named : (d : ℕ) (n : List ℕ) → d < 256 → a-name n ≡ true → a
 unfolding all-bytes
 far-named d n l h =
     let a : ((leb 1 (length n) && leb (length n) 64) ≡ true) × (all-bytes n ≡ true) = and-parts _ _ h in
-    let e : length n ≤ 64 = leb-true (length n) 64 (and-parts _ _ (a .0) .1) in
-    and-from _ _ (and-from _ _ (le-leb 1 (length (d ∷ n)) (omega arith)) (le-leb (length (d ∷ n)) 65 (omega arith))) (and-from _ _ (lt-ltb d 256 l) (a .1))
+    let e : length n ≤ 64 = leb-true (length n) 64 (and-parts (leb 1 (length n)) (leb (length n) 64) (a .0) .1) in
+    let low : leb 1 (length (d ∷ n)) ≡ true = le-leb 1 (length (d ∷ n)) (omega arith) in
+    let high : leb (length (d ∷ n)) 65 ≡ true = le-leb (length (d ∷ n)) 65 (omega arith) in
+    and-from _ _ (and-from _ _ low high) (and-from _ _ (lt-ltb d 256 l) (a .1))
 
 pub fine-fetched : (m d : ℕ) (old new : List Ref) → d < 256 → Fine-refs m a-ref old → Fine-refs m a-name new →
     Fine-refs m a-ref (those (λ r. not (is-far d r)) old ++ each (far d) new)

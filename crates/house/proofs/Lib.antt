@@ -1,3 +1,4 @@
 pub mod TurnLaws
 pub mod WeightLaws
 pub mod FineLaws
+pub mod CarryLaws

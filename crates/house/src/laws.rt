@@ -1,5 +1,5 @@
 // Laws of the plain houses: theorems about the definitions in specs/, each on the contract of a function that does nothing else.
-ghost use Rattle.house.specs.Laws.{Apart, Reach-once, Weight-by-reach, Weight-stays};
+ghost use Rattle.house.specs.Laws.{Apart, Reach-once, Weight-by-reach, Weight-stays, Carried-joined};
 ghost use Rattle.house.specs.Facts.{Stays-fine};
 
 // What is done at one house changes no other, and the book only grows.
@@ -33,6 +33,13 @@ pub fn weight_stays() -> u8
 // Houses are fine at the start, and every turn of a command that fits keeps them so.
 pub fn houses_stay_fine() -> u8
     ensures { λ _. ⌜ Stays-fine ⌝ }
+{
+    0
+}
+
+// Commits of a chain, carried onto a commit that changed other paths, come to what joining gives.
+pub fn carried_is_joined() -> u8
+    ensures { λ _. ⌜ Carried-joined ⌝ }
 {
     0
 }

@@ -182,6 +182,10 @@ pub those-all : {A : Type 0} (p : A → Bool) (xs : List A) → ((x : A) → In 
 those-all p [] h = refl
 those-all p (x ∷ xs) h = pick-true (p x) (x ∷ those p xs) (those p xs) (h x (inl refl)) ∙ ap (λ l. x ∷ l) (those-all p xs (λ y k. h y (inr k)))
 
+pub those-none : {A : Type 0} (p : A → Bool) (xs : List A) → ((x : A) → In x xs → p x ≡ false) → those p xs ≡ []
+those-none p [] h = refl
+those-none p (x ∷ xs) h = pick-false (p x) (x ∷ those p xs) (those p xs) (h x (inl refl)) ∙ those-none p xs (λ y k. h y (inr k))
+
 -- NO REPETITION
 
 abbrev pub Once : {A : Type 0} → List A → Type 0
