@@ -2,3 +2,4 @@ pub mod TurnLaws
 pub mod WeightLaws
 pub mod FineLaws
 pub mod CarryLaws
+pub mod MorningLaws

@@ -2,3 +2,4 @@ pub mod House
 pub mod Promise
 pub mod Laws
 pub mod Facts
+pub mod Morning
