@@ -1,2 +1,4 @@
 pub mod Command
 pub mod Laws
+pub mod Parse
+pub mod Meaning

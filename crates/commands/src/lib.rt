@@ -1,4 +1,5 @@
-// A stand-in.
-pub fn version() -> u8 {
-    0
-}
+mod command;
+mod reader;
+
+pub use command::Command;
+pub use reader::parse;

@@ -3,3 +3,4 @@ pub mod WeightLaws
 pub mod FineLaws
 pub mod CarryLaws
 pub mod MorningLaws
+pub mod Simulation

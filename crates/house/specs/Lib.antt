@@ -3,3 +3,4 @@ pub mod Promise
 pub mod Laws
 pub mod Facts
 pub mod Morning
+pub mod Simulation

@@ -4,7 +4,7 @@ use mathlib.Core.Bool.{Bool, true, false, _&&_, not}
 use mathlib.Core.List.{List, [], _∷_, _++_}
 use Prim.Native.Nat.{ℕ, zero, suc, _+_, _*_, _-_, _/_, _%_, _≤_, _<_}
 use lib.Dec.{eqb, ltb, leb}
-use lib.ListN.{length, getD, take, drop}
+use lib.ListN.{length, getD, set}
 use mathlib.Core.Logic.{_⊎_}
 use Rattle.pages.specs.Lists.{pick, or, every, any, each, flat, same, has, so-many, distinct, added-up}
 use Rattle.pages.specs.Bytes.{from-bytes}
@@ -65,15 +65,12 @@ pub data Item : Type 0 where
   whole : ℕ → List ℕ → ℕ → Item
   stops : ℕ → List ℕ → ℕ → ℕ → List ℕ → Item
 
-unfoldable pub flag : List Bool → ℕ → Bool
-flag [] c = false
-flag (u ∷ us) zero = u
-flag (u ∷ us) (suc c) = flag us c
+-- which houses have power
+abbrev pub flag : List Bool → ℕ → Bool
+flag us c = getD us c false
 
-unfoldable pub set-flag : List Bool → ℕ → Bool → List Bool
-set-flag [] c v = []
-set-flag (u ∷ us) zero v = v ∷ us
-set-flag (u ∷ us) (suc c) v = u ∷ set-flag us c v
+abbrev pub set-flag : List Bool → ℕ → Bool → List Bool
+set-flag us c u = set us c u
 
 unfoldable pub not-up : List Bool → ℕ → Bool
 not-up us c = ltb c (length us) && pick (flag us c) false true
@@ -89,15 +86,11 @@ proper us (stops c t ls n cs ∷ is) = flag us c && proper (set-flag us c false)
 abbrev pub no-world : World
 no-world = record { device = record { pages = []; queue = [] }; memory = []; up = false }
 
-unfoldable pub world-at : List World → ℕ → World
-world-at [] c = no-world
-world-at (v ∷ vs) zero = v
-world-at (v ∷ vs) (suc c) = world-at vs c
+abbrev pub world-at : List World → ℕ → World
+world-at vs c = getD vs c no-world
 
-unfoldable pub set-world : List World → ℕ → World → List World
-set-world [] c v = []
-set-world (u ∷ us) zero v = v ∷ us
-set-world (u ∷ us) (suc c) v = u ∷ set-world us c v
+abbrev pub set-world : List World → ℕ → World → List World
+set-world vs c v = set vs c v
 
 -- the other house of a command: the one fetched from; none for other commands, or one that isn't there
 unfoldable pub peer : ℕ → List ℕ → ℕ

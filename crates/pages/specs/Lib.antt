@@ -2,4 +2,9 @@ pub mod Lists
 pub mod Bytes
 pub mod Device
 pub mod Run
+pub mod Crash
 pub mod Laws
+pub mod Words
+pub mod Machine
+pub mod Engine
+pub mod Tape

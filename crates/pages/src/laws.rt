@@ -1,9 +1,27 @@
-// Laws of the device: theorems about the definitions in specs/, each on the contract of a function that does nothing else.
+// Theorems about the definitions in specs/, each on the contract of a function that does nothing else.
+ghost use Prim.Native.Nat.{ℕ};
+ghost use Rattle.pages.specs.Crash.{Rows, Runs-well};
+ghost use Rattle.pages.specs.Device.{Device};
 ghost use Rattle.pages.specs.Laws.{Flushed-stays};
+ghost use Rattle.pages.specs.Run.{World};
 
 // What was flushed stays, whatever a stop leaves of later writes to other pages.
 pub fn flushed_stays() -> u8
     ensures { λ _. ⌜ Flushed-stays ⌝ }
+{
+    0
+}
+
+// What is promised of a run: of each stop, and of the end.
+pub trait Promises {
+    ghost stop: { Self → Device → World → Rows → Type 0 };
+
+    ghost end: { Self → World → World → Rows → ℕ → Type 0 };
+}
+
+// A run that goes well by the crash logic, whatever is promised of its stops and its end, ends well, and may be stopped after any of its acts.
+pub fn runs_well<P: Promises>(p: &P) -> u8
+    ensures { λ _. ⌜ Runs-well (stop (now (p .entry))) (end (now (p .entry))) ⌝ }
 {
     0
 }

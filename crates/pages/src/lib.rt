@@ -1,2 +1,4 @@
-// The device, its pages, and what they keep.
+// Pages that keep what is written through any stop.
+pub mod bytes;
 pub mod laws;
+pub mod machine;
