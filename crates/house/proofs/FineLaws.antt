@@ -10,7 +10,7 @@ use lib.ListN.{length, length-append}
 use Rattle.std.proofs.shelf.Tests.{true≢false, false≢true, and-parts, and-from, not-true, not-from-false, ltb-true, ltb-false, lt-ltb, leb-true, le-leb, eqb-true, eqb-false, eq-eqb, cases-lt, cases-eq}
 use Rattle.pages.specs.Lists.{pick, or, every, any, each, those, flat, same, none-of, first-or, so-many}
 use Rattle.pages.specs.Bytes.{all-bytes}
-use Rattle.pages.proofs.ListLaws.{pick-both, false-unless, In, in-left, in-right, in-append, every-in, every-from, every-append, every-those, every-each, any-in, any-from, each-in, in-each, those-in, in-those, each-append, Once, once-those, once-append, once-each-those, length-those, length-each, or-parts, first-or-every, same-true, same-false, same-from, same-refl}
+use Rattle.pages.proofs.ListLaws.{pick-both, false-unless, In, in-left, in-right, in-append, every-in, every-from, every-append, every-those, every-each, any-in, any-from, each-in, in-each, those-in, in-those, each-append, Once, once-those, once-append, once-append-parts, once-each-those, length-those, length-each, or-parts, first-or-every, same-true, same-false, same-from, same-refl}
 use Rattle.trees.specs.Tree.{Tree, File, put, without, joined, clashes, paths, both, rising-paths, found, same-tree}
 use Rattle.trees.proofs.TreeLaws.{put-rising, without-rising, put-every, without-every, length-without}
 use Rattle.trees.proofs.JoinLaws.{joined-rising, joined-every, once-clashes, clashes-few, clashes-in}
@@ -19,7 +19,7 @@ use Rattle.history.specs.Laws.{Grown}
 use Rattle.history.proofs.BookLaws.{nth-front, nth-beyond, nth-end, nth-in, length-more, noted-either, place-noted, place-new, noted-more}
 use Rattle.commands.specs.Command.{Command, write-file, drop-file, commit, branch, go-to, history, show-file, status, read-file, join, settle, leave, move-onto, carry, forget, tag, who, sweep, fetch, fits, a-name, a-ref, a-text}
 use Rattle.house.specs.House.{Plain, Clone, Ref, Turn, Way, turn, no, yes-with, clone-at, set-clone, empty-clone, ref-of, set-ref, without-ref, all-refs, tip, tree-of, clean, with-work, moved, drop-path, carry-one, carry-all, parent-tree, carried-tree, ours-alone, single, reached, by-id, far, is-far}
-use Rattle.house.specs.Facts.{all-differ, a-file, Fine-tree, Fine-commit, Fine-book, Fine-refs, Fine-clone, Fine, Stays-fine}
+use Rattle.house.specs.Facts.{all-differ, a-file, Fine-tree, Fine-commit, Fine-book, Fine-refs, Fine-names, Fine-work, Fine-clone, Fine, Stays-fine}
 use Rattle.house.proofs.TurnLaws.{Grows, grows-self, grows-carry-one, grows-carry-all, carry-either, once-more, went, stuck, goes, set-out, clone-at-either}
 
 -- ROWS THAT DIFFER
@@ -168,10 +168,6 @@ fine-those m named p rs f =
       into = every-those (λ r. ltb (r .to) m) p rs (f .into);
     }
 
-pub fine-without-ref : (m : ℕ) (n : List ℕ) (rs : List Ref) → Fine-refs m a-name rs → Fine-refs m a-name (without-ref n rs)
-unfolding without-ref
-fine-without-ref m n rs f = fine-those m a-name (λ r. not (same (r .name) n)) rs f
-
 -- a name with the number of its house before it
 pub far-named : (d : ℕ) (n : List ℕ) → d < 256 → a-name n ≡ true → a-ref (d ∷ n) ≡ true
 unfolding all-bytes
@@ -215,42 +211,89 @@ fine-fetched m d old new l f g =
         let h : eqb (first-or 999 (r .0 .name)) d ≡ false = not-true _ (those-in (λ r. not (is-far d r)) old (r .0) (r .1) .1) in
         eqb-false (first-or 999 (r .0 .name)) d h (ap (λ z. first-or 999 z) (r .2) ∙ far-first new n k)
 
+-- a name that leads nowhere is none of the names
+pub ref-of-none : (rs : List Ref) (n : List ℕ) → none-of (ref-of rs n) ≡ true → In n (names rs) → ⊥
+unfolding ref-of
+ref-of-none [] n h i = i
+ref-of-none (r ∷ rs) n h i =
+    pick-both (λ l. none-of l ≡ true → ⊥) (same (r .name) n) (r .to ∷ []) (ref-of rs n) (λ _ e. false≢true e)
+    (λ d e. ⊎-elim (λ c. same-false (r .name) n d c) (λ k. ref-of-none rs n e k) i) h
+
+pub none-ref-of : (rs : List Ref) (n : List ℕ) → (In n (names rs) → ⊥) → none-of (ref-of rs n) ≡ true
+unfolding ref-of
+none-ref-of [] n h = refl
+none-ref-of (r ∷ rs) n h =
+    pick-both (λ l. none-of l ≡ true) (same (r .name) n) (r .to ∷ []) (ref-of rs n) (λ e. absurd (h (inl (same-true (r .name) n e)))) (λ _. none-ref-of rs n (λ i. h (inr i)))
+
+pub ref-of-there : (rs : List Ref) (n : List ℕ) → none-of (ref-of rs n) ≡ false → In n (names rs)
+unfolding ref-of
+ref-of-there [] n h = absurd (true≢false h)
+ref-of-there (r ∷ rs) n h =
+    pick-both (λ l. none-of l ≡ false → In n (names (r ∷ rs))) (same (r .name) n) (r .to ∷ []) (ref-of rs n) (λ e _. inl (same-true (r .name) n e))
+    (λ _ e. inr (ref-of-there rs n e)) h
+
 -- HOUSES
+
+-- no name stands in both lists
+abbrev pub Names-apart : List Ref → List Ref → Type 0
+Names-apart rs ss = (m : List ℕ) → In m (names rs) → In m (names ss) → ⊥
+
+pub apart-parts : (rs ss : List Ref) → all-differ (names (rs ++ ss)) ≡ true → Names-apart rs ss
+apart-parts rs ss h =
+    once-append-parts (names rs) (names ss) (subst Once (each-append (λ r. r .name) rs ss) (differ-once (names (rs ++ ss)) h)) .2
+
+pub apart-from : (n : ℕ) (rs ss : List Ref) → Fine-refs n a-name rs → Fine-refs n a-name ss → Names-apart rs ss → all-differ (names (rs ++ ss)) ≡ true
+apart-from n rs ss f g h =
+    once-differ (names (rs ++ ss)) (subst Once (sym (each-append (λ r. r .name) rs ss))
+    (once-append (names rs) (names ss) (differ-once (names rs) (f .differ)) (differ-once (names ss) (g .differ)) h))
+
+-- a name that is in neither list
+pub in-neither : (rs ss : List Ref) (n : List ℕ) → none-of (ref-of (rs ++ ss) n) ≡ true → (In n (names rs) → ⊥) × (In n (names ss) → ⊥)
+in-neither rs ss n h =
+    let out : In n (names rs ++ names ss) → ⊥ = λ i. ref-of-none (rs ++ ss) n h (subst (λ l. In n l) (sym (each-append (λ r. r .name) rs ss)) i) in
+    (λ i. out (in-left n (names rs) (names ss) i), λ i. out (in-right n (names rs) (names ss) i))
+
+pub fine-names-more : (n m : ℕ) (bs ts os : List Ref) (here : List ℕ) → n ≤ m → Fine-names n bs ts os here → Fine-names m bs ts os here
+fine-names-more n m bs ts os here l f =
+    record {
+      branch-names = fine-refs-more n m a-name bs l (f .branch-names);
+      tag-names = fine-refs-more n m a-name ts l (f .tag-names);
+      other-names = fine-refs-more n m a-ref os l (f .other-names);
+      apart = f .apart;
+      named = f .named;
+      untagged = f .untagged;
+    }
+
+pub fine-work-more : (n m : ℕ) (t : Tree) (js : List ℕ) (ps : List (List ℕ)) → n ≤ m → Fine-work n t js ps → Fine-work m t js ps
+fine-work-more n m t js ps l f =
+    record {
+      tree = f .tree;
+      into = every-from (λ j. ltb j m) js (λ j i. let h : j < n = ltb-true j n (every-in (λ j. ltb j n) js (f .into) j i) in lt-ltb j m (omega arith));
+      one = f .one;
+      clashing = f .clashing;
+      differ = f .differ;
+      few = f .few;
+    }
 
 pub fine-clone-more : (n m : ℕ) (x : Clone) → n ≤ m → Fine-clone n x → Fine-clone m x
 fine-clone-more n m x l f =
-    record {
-      branches = fine-refs-more n m a-name (x .branches) l (f .branches);
-      tags = fine-refs-more n m a-name (x .tags) l (f .tags);
-      others = fine-refs-more n m a-ref (x .others) l (f .others);
-      here = f .here;
-      work = f .work;
-      joining = every-from (λ j. ltb j m) (x .joining)
-          (λ j i. let h : j < n = ltb-true j n (every-in (λ j. ltb j n) (x .joining) (f .joining) j i) in lt-ltb j m (omega arith));
-      one = f .one;
-      clashing = f .clashing;
-      clashes-differ = f .clashes-differ;
-      clashes-few = f .clashes-few;
-    }
+    record { names = fine-names-more n m (x .branches) (x .tags) (x .others) (x .here) l (f .names); state = fine-work-more n m (x .work) (x .joining) (x .unsettled) l (f .state) }
 
 pub fine-no-refs : (n : ℕ) (named : List ℕ → Bool) → Fine-refs n named []
 unfolding all-differ
 fine-no-refs n named = record { names = refl; differ = refl; into = refl }
 
+-- a tree in work, nothing being joined
+pub fine-at-rest : (n : ℕ) (t : Tree) → Fine-tree t → Fine-work n t [] []
+unfolding all-differ
+fine-at-rest n t f = record { tree = f; into = refl; one = lit≤ tt; clashing = refl; differ = refl; few = lit≤ tt }
+
 pub fine-empty-clone : (n : ℕ) → Fine-clone n empty-clone
-unfolding all-bytes all-differ
+unfolding all-bytes all-differ ref-of
 fine-empty-clone n =
     record {
-      branches = fine-no-refs n a-name;
-      tags = fine-no-refs n a-name;
-      others = fine-no-refs n a-ref;
-      here = refl;
-      work = fine-empty;
-      joining = refl;
-      one = lit≤ tt;
-      clashing = refl;
-      clashes-differ = refl;
-      clashes-few = lit≤ tt;
+      names = record { branch-names = fine-no-refs n a-name; tag-names = fine-no-refs n a-name; other-names = fine-no-refs n a-ref; apart = refl; named = refl; untagged = refl };
+      state = fine-at-rest n [] fine-empty;
     }
 
 pub all-empty : (n c : ℕ) → clone-at (so-many n empty-clone) c ≡ empty-clone
@@ -262,58 +305,99 @@ all-empty (suc n) (suc c) = all-empty n c
 pub fine-start : (houses : ℕ) → Fine (record { book = []; clones = so-many houses empty-clone })
 fine-start houses = record { book = fine-none; clones = λ c. subst (λ x. Fine-clone 0 x) (sym (all-empty houses c)) (fine-empty-clone 0) }
 
--- what is in work, what is being joined, what clashes
-pub fine-with-work : (n : ℕ) (x : Clone) (t : Tree) (js : List ℕ) (ps : List (List ℕ)) → Fine-clone n x → Fine-tree t →
-    every (λ j. ltb j n) js ≡ true → length js ≤ 1 → every a-name ps ≡ true → all-differ ps ≡ true → length ps ≤ 8192 → Fine-clone n (with-work x t js ps)
-fine-with-work n x t js ps f g a b c d e =
-    record {
-      branches = f .branches;
-      tags = f .tags;
-      others = f .others;
-      here = f .here;
-      work = g;
-      joining = a;
-      one = b;
-      clashing = c;
-      clashes-differ = d;
-      clashes-few = e;
-    }
-
 -- with a path less to settle
 pub fine-settled : (n : ℕ) (x : Clone) (t : Tree) (p : List ℕ) → Fine-clone n x → Fine-tree t → Fine-clone n (with-work x t (x .joining) (drop-path p (x .unsettled)))
 fine-settled n x t p f g =
     let l : length (drop-path p (x .unsettled)) ≤ length (x .unsettled) = length-those (λ q. not (same q p)) (x .unsettled) in
-    let m : length (x .unsettled) ≤ 8192 = f .clashes-few in
-    fine-with-work n x t (x .joining) (drop-path p (x .unsettled)) f g (f .joining) (f .one) (every-those a-name (λ q. not (same q p)) (x .unsettled) (f .clashing))
-    (once-differ (drop-path p (x .unsettled)) (once-those (λ q. not (same q p)) (x .unsettled) (differ-once (x .unsettled) (f .clashes-differ)))) (omega arith)
+    let m : length (x .unsettled) ≤ 8192 = f .state .few in
+    record {
+      names = f .names;
+      state = record {
+        tree = g;
+        into = f .state .into;
+        one = f .state .one;
+        clashing = every-those a-name (λ q. not (same q p)) (x .unsettled) (f .state .clashing);
+        differ = once-differ (drop-path p (x .unsettled)) (once-those (λ q. not (same q p)) (x .unsettled) (differ-once (x .unsettled) (f .state .differ)));
+        few = omega arith;
+      };
+    }
+
+-- a branch set to a commit, under a name that no tag has
+pub fine-branched : (n : ℕ) (bs ts os : List Ref) (here m : List ℕ) (k : ℕ) → Fine-names n bs ts os here → a-name m ≡ true → k < n → (In m (names ts) → ⊥) →
+    Fine-names n (set-ref m k bs) ts os here
+fine-branched n bs ts os here m k f h l o =
+    let set : Fine-refs n a-name (set-ref m k bs) = fine-set-ref n a-name m k bs (f .branch-names) h l in
+    record {
+      branch-names = set;
+      tag-names = f .tag-names;
+      other-names = f .other-names;
+      apart = apart-from n (set-ref m k bs) ts set (f .tag-names)
+          (λ z i j. ⊎-elim (λ e. o (subst (λ w. In w (names ts)) (sym e) j)) (λ i₁. apart-parts bs ts (f .apart) z i₁ j) (set-ref-names m k bs z i));
+      named = f .named;
+      untagged = f .untagged;
+    }
+
+-- a tag set to a commit, under a name that no branch has
+pub fine-tagged : (n : ℕ) (bs ts os : List Ref) (here m : List ℕ) (k : ℕ) → Fine-names n bs ts os here → a-name m ≡ true → k < n → (In m (names bs) → ⊥) → (m ≡ here → ⊥) →
+    Fine-names n bs (set-ref m k ts) os here
+fine-tagged n bs ts os here m k f h l o d =
+    let set : Fine-refs n a-name (set-ref m k ts) = fine-set-ref n a-name m k ts (f .tag-names) h l in
+    record {
+      branch-names = f .branch-names;
+      tag-names = set;
+      other-names = f .other-names;
+      apart = apart-from n bs (set-ref m k ts) (f .branch-names) set
+          (λ z i j. ⊎-elim (λ e. o (subst (λ w. In w (names bs)) (sym e) i)) (λ j₁. apart-parts bs ts (f .apart) z i j₁) (set-ref-names m k ts z j));
+      named = f .named;
+      untagged = none-ref-of (set-ref m k ts) here (λ i. ⊎-elim (λ e. d e) (λ j. ref-of-none ts here (f .untagged) j) (set-ref-names m k ts here i));
+    }
+
+-- a branch forgotten
+pub fine-forgotten : (n : ℕ) (bs ts os : List Ref) (here m : List ℕ) → Fine-names n bs ts os here → Fine-names n (without-ref m bs) ts os here
+unfolding without-ref
+fine-forgotten n bs ts os here m f =
+    let less : Fine-refs n a-name (those (λ r. not (same (r .name) m)) bs) = fine-those n a-name (λ r. not (same (r .name) m)) bs (f .branch-names) in
+    record {
+      branch-names = less;
+      tag-names = f .tag-names;
+      other-names = f .other-names;
+      apart = apart-from n (those (λ r. not (same (r .name) m)) bs) ts less (f .tag-names)
+          (λ z i j. let r : (r : Ref) × In r (those (λ r. not (same (r .name) m)) bs) × (r .name ≡ z) = each-in (λ r. r .name) (those (λ r. not (same (r .name) m)) bs) z i in
+          apart-parts bs ts (f .apart) z (subst (λ w. In w (names bs)) (r .2) (in-each (λ r. r .name) bs (r .0) (those-in (λ r. not (same (r .name) m)) bs (r .0) (r .1) .0))) j);
+      named = f .named;
+      untagged = f .untagged;
+    }
+
+-- on another branch
+pub fine-on : (n : ℕ) (bs ts os : List Ref) (here m : List ℕ) → Fine-names n bs ts os here → a-name m ≡ true → In m (names bs) → Fine-names n bs ts os m
+fine-on n bs ts os here m f h i =
+    record {
+      branch-names = f .branch-names;
+      tag-names = f .tag-names;
+      other-names = f .other-names;
+      apart = f .apart;
+      named = h;
+      untagged = none-ref-of ts m (λ j. apart-parts bs ts (f .apart) m i j);
+    }
 
 pub fine-moved : (b : Book) (x : Clone) (k : ℕ) → Fine-book b → Fine-clone (length b) x → k < length b → Fine-clone (length b) (moved b x k)
-unfolding all-differ
 fine-moved b x k g f l =
     record {
-      branches = fine-set-ref (length b) a-name (x .here) k (x .branches) (f .branches) (f .here) l;
-      tags = f .tags;
-      others = f .others;
-      here = f .here;
-      work = g .commits k .tree;
-      joining = refl;
-      one = lit≤ tt;
-      clashing = refl;
-      clashes-differ = refl;
-      clashes-few = lit≤ tt;
+      names = fine-branched (length b) (x .branches) (x .tags) (x .others) (x .here) (x .here) k (f .names) (f .names .named) l (ref-of-none (x .tags) (x .here) (f .names .untagged));
+      state = fine-at-rest (length b) (nth b k .tree) (g .commits k .tree);
     }
 
 -- where names lead is in the book
 pub refs-into : (n : ℕ) (x : Clone) → Fine-clone n x → every (λ r. ltb (r .to) n) (all-refs x) ≡ true
 refs-into n x f =
     every-append (λ r. ltb (r .to) n) ((x .branches) ++ (x .tags)) (x .others)
-    (every-append (λ r. ltb (r .to) n) (x .branches) (x .tags) (f .branches .into) (f .tags .into)) (f .others .into)
+    (every-append (λ r. ltb (r .to) n) (x .branches) (x .tags) (f .names .branch-names .into) (f .names .tag-names .into)) (f .names .other-names .into)
 
 pub named-into : (n : ℕ) (x : Clone) (m : List ℕ) → Fine-clone n x → none-of (ref-of (all-refs x) m) ≡ false → first-or 0 (ref-of (all-refs x) m) < n
 named-into n x m f e = ltb-true _ n (first-or-every (λ j. ltb j n) 0 (ref-of (all-refs x) m) e (ref-of-every (λ j. ltb j n) (all-refs x) m (refs-into n x f)))
 
 pub tip-all : (n : ℕ) (x : Clone) → Fine-clone n x → every (λ j. ltb j n) (tip x) ≡ true
-tip-all n x f = ref-of-every (λ j. ltb j n) (x .branches) (x .here) (f .branches .into)
+tip-all n x f = ref-of-every (λ j. ltb j n) (x .branches) (x .here) (f .names .branch-names .into)
 
 pub tip-into : (n : ℕ) (x : Clone) → Fine-clone n x → none-of (tip x) ≡ false → first-or 0 (tip x) < n
 tip-into n x f e = ltb-true _ n (first-or-every (λ j. ltb j n) 0 (tip x) e (tip-all n x f))
@@ -389,11 +473,11 @@ pub fine-new : (n : ℕ) (x : Clone) (s : ℕ) (ws : List ℕ) → Fine-clone n 
 fine-new n x s ws f h =
     let l : length (tip x ++ (x .joining)) ≡ length (tip x) + length (x .joining) = length-append (tip x) (x .joining) in
     let a : length (tip x) ≤ 1 = ref-of-one (x .branches) (x .here) in
-    let b : length (x .joining) ≤ 1 = f .one in
+    let b : length (x .joining) ≤ 1 = f .state .one in
     record {
-      lower = every-append (λ j. ltb j n) (tip x) (x .joining) (tip-all n x f) (f .joining);
+      lower = every-append (λ j. ltb j n) (tip x) (x .joining) (tip-all n x f) (f .state .into);
       two = omega arith;
-      tree = f .work;
+      tree = f .state .tree;
       stamp = ltb-true s _ (and-parts _ _ h .0);
       words = and-parts (ltb s 18446744073709551616) _ h .1;
     }
@@ -410,75 +494,16 @@ fine-joining n x bases ours theirs j f g h l m =
     let few : length (clashes bases ours theirs) ≤ length ours + length theirs = clashes-few bases ours theirs in
     let a : length ours ≤ 4096 = g .few in
     let b : length theirs ≤ 4096 = h .few in
-    fine-with-work n x (joined bases ours theirs) (j ∷ []) (clashes bases ours theirs) f (fine-joined bases ours theirs g h m)
-    (and-from _ _ (lt-ltb j n l) refl) (lit≤ tt)
-    (every-from a-name (clashes bases ours theirs) (λ p i. ⊎-elim (λ k. path-named ours p g k) (λ k. path-named theirs p h k) (clashes-in bases ours theirs p i .0)))
-    (once-differ (clashes bases ours theirs) (once-clashes bases ours theirs (g .rising))) (omega arith)
-
-pub fine-branches : (n : ℕ) (x : Clone) (rs : List Ref) → Fine-clone n x → Fine-refs n a-name rs →
-    Fine-clone n (record { branches = rs; tags = x .tags; others = x .others; here = x .here; work = x .work; joining = x .joining; unsettled = x .unsettled })
-fine-branches n x rs f g =
     record {
-      branches = g;
-      tags = f .tags;
-      others = f .others;
-      here = f .here;
-      work = f .work;
-      joining = f .joining;
-      one = f .one;
-      clashing = f .clashing;
-      clashes-differ = f .clashes-differ;
-      clashes-few = f .clashes-few;
-    }
-
-pub fine-tags : (n : ℕ) (x : Clone) (rs : List Ref) → Fine-clone n x → Fine-refs n a-name rs →
-    Fine-clone n (record { branches = x .branches; tags = rs; others = x .others; here = x .here; work = x .work; joining = x .joining; unsettled = x .unsettled })
-fine-tags n x rs f g =
-    record {
-      branches = f .branches;
-      tags = g;
-      others = f .others;
-      here = f .here;
-      work = f .work;
-      joining = f .joining;
-      one = f .one;
-      clashing = f .clashing;
-      clashes-differ = f .clashes-differ;
-      clashes-few = f .clashes-few;
-    }
-
-pub fine-others : (n : ℕ) (x : Clone) (rs : List Ref) → Fine-clone n x → Fine-refs n a-ref rs →
-    Fine-clone n (record { branches = x .branches; tags = x .tags; others = rs; here = x .here; work = x .work; joining = x .joining; unsettled = x .unsettled })
-fine-others n x rs f g =
-    record {
-      branches = f .branches;
-      tags = f .tags;
-      others = g;
-      here = f .here;
-      work = f .work;
-      joining = f .joining;
-      one = f .one;
-      clashing = f .clashing;
-      clashes-differ = f .clashes-differ;
-      clashes-few = f .clashes-few;
-    }
-
--- elsewhere, with a tree of the book in work and nothing being joined
-pub fine-at : (n : ℕ) (x : Clone) (m : List ℕ) (t : Tree) → Fine-clone n x → a-name m ≡ true → Fine-tree t →
-    Fine-clone n (record { branches = x .branches; tags = x .tags; others = x .others; here = m; work = t; joining = []; unsettled = [] })
-unfolding all-differ
-fine-at n x m t f h g =
-    record {
-      branches = f .branches;
-      tags = f .tags;
-      others = f .others;
-      here = h;
-      work = g;
-      joining = refl;
-      one = lit≤ tt;
-      clashing = refl;
-      clashes-differ = refl;
-      clashes-few = lit≤ tt;
+      names = f .names;
+      state = record {
+        tree = fine-joined bases ours theirs g h m;
+        into = and-from _ _ (lt-ltb j n l) refl;
+        one = lit≤ tt;
+        clashing = every-from a-name (clashes bases ours theirs) (λ p i. ⊎-elim (λ k. path-named ours p g k) (λ k. path-named theirs p h k) (clashes-in bases ours theirs p i .0));
+        differ = once-differ (clashes bases ours theirs) (once-clashes bases ours theirs (g .rising));
+        few = omega arith;
+      };
     }
 
 -- the trees from which two commits came
@@ -489,10 +514,10 @@ pub fine-turn : (sum : Sum) (w : Plain) (c : ℕ) (x : Clone) (a : Command) → 
 unfolding turn fits
 fine-turn sum w c x (write-file p b) h f fx =
     fine-pick (ltb 4096 (length (put p b (x .work)))) _ _ (λ _. fine-no 10 w f)
-    (λ l. fine-here [] w c _ f (fine-settled (length (w .book)) x (put p b (x .work)) p fx (fine-put p b (x .work) (fx .work) h (ltb-false 4096 _ l))))
+    (λ l. fine-here [] w c _ f (fine-settled (length (w .book)) x (put p b (x .work)) p fx (fine-put p b (x .work) (fx .state .tree) h (ltb-false 4096 _ l))))
 fine-turn sum w c x (drop-file p) h f fx =
     fine-pick (none-of (found (x .work) p)) _ _ (λ _. fine-no 3 w f)
-    (λ _. fine-here [] w c _ f (fine-settled (length (w .book)) x (without p (x .work)) p fx (fine-without p (x .work) (fx .work))))
+    (λ _. fine-here [] w c _ f (fine-settled (length (w .book)) x (without p (x .work)) p fx (fine-without p (x .work) (fx .state .tree))))
 fine-turn sum w c x (commit s ws) h f fx =
     fine-pick (none-of (x .unsettled)) _ _
     (λ _. fine-pick (same-tree (x .work) (tree-of (w .book) (tip x)) && none-of (x .joining)) _ _ (λ _. fine-no 7 w f)
@@ -501,14 +526,22 @@ fine-turn sum w c x (commit s ws) h f fx =
     (λ _. fine-no 6 w f)
 fine-turn sum w c x (branch n) h f fx =
     fine-pick (none-of (ref-of ((x .branches) ++ (x .tags)) n) && not (same n (x .here))) _ _
-    (λ _. fine-pick (none-of (tip x)) _ _ (λ _. fine-no 3 w f)
-    (λ e. fine-here [] w c _ f (fine-branches (length (w .book)) x _ fx
-    (fine-set-ref (length (w .book)) a-name n (first-or 0 (tip x)) (x .branches) (fx .branches) h (tip-into (length (w .book)) x fx e)))))
+    (λ t. fine-pick (none-of (tip x)) _ _ (λ _. fine-no 3 w f)
+    (λ e. fine-here [] w c _ f
+    (record {
+      names = fine-branched (length (w .book)) (x .branches) (x .tags) (x .others) (x .here) n (first-or 0 (tip x)) (fx .names) h (tip-into (length (w .book)) x fx e)
+          (in-neither (x .branches) (x .tags) n (and-parts _ _ t .0) .1);
+      state = fx .state;
+    })))
     (λ _. fine-no 4 w f)
 fine-turn sum w c x (go-to n) h f fx =
     fine-pick (none-of (ref-of (x .branches) n)) _ _ (λ _. fine-no 3 w f)
-    (λ _. fine-pick (clean (w .book) x) _ _
-    (λ _. fine-here [] w c _ f (fine-at (length (w .book)) x n (tree-of (w .book) (ref-of (x .branches) n)) fx h (fine-tree-of (w .book) (ref-of (x .branches) n) (f .book))))
+    (λ e. fine-pick (clean (w .book) x) _ _
+    (λ _. fine-here [] w c _ f
+    (record {
+      names = fine-on (length (w .book)) (x .branches) (x .tags) (x .others) (x .here) n (fx .names) h (ref-of-there (x .branches) n e);
+      state = fine-at-rest (length (w .book)) (tree-of (w .book) (ref-of (x .branches) n)) (fine-tree-of (w .book) (ref-of (x .branches) n) (f .book));
+    }))
     (λ _. fine-no 5 w f))
 fine-turn sum w c x history h f fx = fine-here _ w c x f fx
 fine-turn sum w c x (show-file n p) h f fx =
@@ -528,8 +561,9 @@ fine-turn sum w c x (join n) h f fx =
     (ltb-false 4096 _ l))))))
     (λ _. fine-no 5 w f))
 fine-turn sum w c x (settle p) h f fx =
-    fine-pick (any (λ q. same q p) (x .unsettled)) _ _ (λ _. fine-here [] w c _ f (fine-settled (length (w .book)) x (x .work) p fx (fx .work))) (λ _. fine-no 6 w f)
-fine-turn sum w c x leave h f fx = fine-here [] w c _ f (fine-at (length (w .book)) x (x .here) (tree-of (w .book) (tip x)) fx (fx .here) (fine-tree-of (w .book) (tip x) (f .book)))
+    fine-pick (any (λ q. same q p) (x .unsettled)) _ _ (λ _. fine-here [] w c _ f (fine-settled (length (w .book)) x (x .work) p fx (fx .state .tree))) (λ _. fine-no 6 w f)
+fine-turn sum w c x leave h f fx =
+    fine-here [] w c _ f (record { names = fx .names; state = fine-at-rest (length (w .book)) (tree-of (w .book) (tip x)) (fine-tree-of (w .book) (tip x) (f .book)) })
 fine-turn sum w c x (move-onto n) h f fx =
     fine-pick (or (none-of (ref-of (all-refs x) n)) (none-of (tip x))) _ _ (λ _. fine-no 3 w f)
     (λ e. let j : ℕ = first-or 0 (ref-of (all-refs x) n) in
@@ -559,19 +593,32 @@ fine-turn sum w c x (carry i) h f fx =
 fine-turn sum w c x (forget n) h f fx =
     fine-pick (none-of (ref-of (x .branches) n)) _ _ (λ _. fine-no 3 w f)
     (λ _. fine-pick (same n (x .here)) _ _ (λ _. fine-no 6 w f)
-    (λ _. fine-here [] w c _ f (fine-branches (length (w .book)) x (without-ref n (x .branches)) fx (fine-without-ref (length (w .book)) n (x .branches) (fx .branches)))))
+    (λ _. fine-here [] w c _ f (record { names = fine-forgotten (length (w .book)) (x .branches) (x .tags) (x .others) (x .here) n (fx .names); state = fx .state })))
 fine-turn sum w c x (tag n) h f fx =
     fine-pick (none-of (ref-of ((x .branches) ++ (x .tags)) n) && not (same n (x .here))) _ _
-    (λ _. fine-pick (none-of (tip x)) _ _ (λ _. fine-no 3 w f)
-    (λ e. fine-here [] w c _ f (fine-tags (length (w .book)) x _ fx
-    (fine-set-ref (length (w .book)) a-name n (first-or 0 (tip x)) (x .tags) (fx .tags) h (tip-into (length (w .book)) x fx e)))))
+    (λ t. fine-pick (none-of (tip x)) _ _ (λ _. fine-no 3 w f)
+    (λ e. fine-here [] w c _ f
+    (record {
+      names = fine-tagged (length (w .book)) (x .branches) (x .tags) (x .others) (x .here) n (first-or 0 (tip x)) (fx .names) h (tip-into (length (w .book)) x fx e)
+          (in-neither (x .branches) (x .tags) n (and-parts _ _ t .0) .0) (same-false n (x .here) (not-true _ (and-parts _ _ t .1)));
+      state = fx .state;
+    })))
     (λ _. fine-no 4 w f)
 fine-turn sum w c x (who p) h f fx = fine-pick (none-of (found (tree-of (w .book) (tip x)) p)) _ _ (λ _. fine-no 3 w f) (λ _. fine-here _ w c x f fx)
 fine-turn sum w c x sweep h f fx = fine-here _ w c x f fx
 fine-turn sum w c x (fetch d) h f fx =
     fine-pick (ltb d (length (w .clones)) && not (eqb d c)) _ _
-    (λ _. fine-here [] w c _ f (fine-others (length (w .book)) x _ fx
-    (fine-fetched (length (w .book)) d (x .others) (clone-at (w .clones) d .branches) (let l : d < 16 = ltb-true d 16 h in omega arith) (fx .others) (f .clones d .branches))))
+    (λ _. fine-here [] w c _ f (record {
+      names = record {
+        branch-names = fx .names .branch-names;
+        tag-names = fx .names .tag-names;
+        other-names = fine-fetched (length (w .book)) d (x .others) (clone-at (w .clones) d .branches) (let l : d < 16 = ltb-true d 16 h in omega arith) (fx .names .other-names) (f .clones d .names .branch-names);
+        apart = fx .names .apart;
+        named = fx .names .named;
+        untagged = fx .names .untagged;
+      };
+      state = fx .state;
+    }))
     (λ _. fine-no 3 w f)
 
 pub stays-fine : Stays-fine

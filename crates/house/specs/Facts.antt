@@ -5,11 +5,11 @@ use mathlib.Core.List.{List, [], _∷_, _++_}
 use Prim.Native.Nat.{ℕ, zero, suc, _+_, _*_, _-_, _/_, _%_, _≤_, _<_}
 use lib.Dec.{eqb, ltb, leb}
 use lib.ListN.{length, getD, take, drop}
-use Rattle.pages.specs.Lists.{every, any, each, same, so-many}
+use Rattle.pages.specs.Lists.{every, any, each, same, none-of, so-many}
 use Rattle.trees.specs.Tree.{Tree, File, rising-paths}
 use Rattle.history.specs.Book.{Book, Commit, Sum, nth}
 use Rattle.commands.specs.Command.{Command, a-name, a-ref, a-text, fits}
-use Rattle.house.specs.House.{Plain, Clone, Ref, turn, clone-at, empty-clone}
+use Rattle.house.specs.House.{Plain, Clone, Ref, turn, clone-at, ref-of, empty-clone}
 
 -- no row stands twice
 unfoldable pub all-differ : List (List ℕ) → Bool
@@ -44,18 +44,27 @@ pub record Fine-refs (n : ℕ) (named : List ℕ → Bool) (rs : List Ref) : Typ
   pub differ : all-differ (each (λ r. r .name) rs) ≡ true
   pub into : every (λ r. ltb (r .to) n) rs ≡ true
 
--- a house beside a book with so many commits
+-- the names of a house beside a book with so many commits; neither a branch nor the one on which one works has the name of a tag
+pub record Fine-names (n : ℕ) (branches tags others : List Ref) (here : List ℕ) : Type 0 where
+  pub branch-names : Fine-refs n a-name branches
+  pub tag-names : Fine-refs n a-name tags
+  pub other-names : Fine-refs n a-ref others
+  pub apart : all-differ (each (λ r. r .name) (branches ++ tags)) ≡ true
+  pub named : a-name here ≡ true
+  pub untagged : none-of (ref-of tags here) ≡ true
+
+-- what it has in work; at most one commit is being joined, and at most 8,192 paths clash
+pub record Fine-work (n : ℕ) (work : Tree) (joining : List ℕ) (unsettled : List (List ℕ)) : Type 0 where
+  pub tree : Fine-tree work
+  pub into : every (λ j. ltb j n) joining ≡ true
+  pub one : length joining ≤ 1
+  pub clashing : every a-name unsettled ≡ true
+  pub differ : all-differ unsettled ≡ true
+  pub few : length unsettled ≤ 8192
+
 pub record Fine-clone (n : ℕ) (x : Clone) : Type 0 where
-  pub branches : Fine-refs n a-name (x .branches)
-  pub tags : Fine-refs n a-name (x .tags)
-  pub others : Fine-refs n a-ref (x .others)
-  pub here : a-name (x .here) ≡ true
-  pub work : Fine-tree (x .work)
-  pub joining : every (λ j. ltb j n) (x .joining) ≡ true
-  pub one : length (x .joining) ≤ 1
-  pub clashing : every a-name (x .unsettled) ≡ true
-  pub clashes-differ : all-differ (x .unsettled) ≡ true
-  pub clashes-few : length (x .unsettled) ≤ 8192
+  pub names : Fine-names n (x .branches) (x .tags) (x .others) (x .here)
+  pub state : Fine-work n (x .work) (x .joining) (x .unsettled)
 
 pub record Fine (w : Plain) : Type 0 where
   pub book : Fine-book (w .book)

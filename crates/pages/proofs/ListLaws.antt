@@ -428,6 +428,15 @@ once-append [] ys o q n = q
 once-append (x ∷ xs) ys o q n =
     (λ i. ⊎-elim (λ l. o .0 l) (λ r. n x (inl refl) r) (in-append x xs ys i), once-append xs ys (o .1) q (λ y i k. n y (inr i) k))
 
+pub once-append-parts : {A : Type 0} (xs ys : List A) → Once (xs ++ ys) → Once xs × Once ys × ((x : A) → In x xs → In x ys → ⊥)
+once-append-parts [] ys o = (tt, o, λ x i k. i)
+once-append-parts (x ∷ xs) ys o =
+    let r : Once xs × Once ys × ((z : _) → In z xs → In z ys → ⊥) = once-append-parts xs ys (o .1) in (
+      (λ i. o .0 (in-left x xs ys i), r .0),
+      r .1,
+      λ z. elim [ inl e ↦ λ k. o .0 (in-right x xs ys (subst (λ w. In w ys) (sym e) k)) | inr i ↦ λ k. r .2 z i k ],
+    )
+
 pub or-parts : (s t : Bool) → or s t ≡ false → (s ≡ false) × (t ≡ false)
 or-parts true t e = absurd (true≢false e)
 or-parts false t e = (refl, e)
