@@ -15,15 +15,10 @@ use Rattle.trees.specs.Tree.{Tree, File}
 use Rattle.history.specs.Book.{Book, Commit, nth, back, added}
 use Rattle.history.specs.Laws.{Grown}
 use Rattle.history.proofs.BookLaws.{nth-front}
-use Rattle.history.proofs.BackLaws.{added-in, once-added, once-back, back-within}
+use Rattle.history.proofs.BackLaws.{each-once-from, added-in, once-added, once-back, back-within}
 use Rattle.history.proofs.GrowLaws.{Below, back-more}
 use Rattle.house.specs.House.{Clone, Ref, all-refs, reached, weight, tree-weight}
-use Rattle.house.specs.Laws.{each-once, Reach-once, Weight-by-reach, Weight-stays}
-
-pub each-once-from : (ks : List ℕ) → Once ks → each-once ks ≡ true
-unfolding each-once
-each-once-from [] o = refl
-each-once-from (k ∷ ks) o = and-from _ _ (not-from-false (has ks k) (false-unless (has ks k) (λ h. o .0 (has-in ks k h)))) (each-once-from ks (o .1))
+use Rattle.house.specs.Laws.{Reach-once, Weight-by-reach, Weight-stays}
 
 -- from where a house reaches
 abbrev pub starts : Clone → List ℕ

@@ -8,7 +8,7 @@ use lib.ListN.{length, getD, take, drop}
 use Rattle.pages.specs.Lists.{or, every, same, has}
 use Rattle.trees.specs.Tree.{found, alike, joined, both, rising-paths}
 use Rattle.history.specs.Book.{Book, Sum, nth}
-use Rattle.history.specs.Laws.{Grown}
+use Rattle.history.specs.Laws.{Grown, each-once}
 use Rattle.commands.specs.Command.{Command}
 use Rattle.house.specs.House.{Plain, Clone, Way, turn, clone-at, carry-all, all-refs, reached, weight}
 use Rattle.house.specs.Promise.{Never}
@@ -40,10 +40,6 @@ Apart =
     × ((more : Book) × (turn sum w c (clone-at (w .clones) c) a .next .book ≡ w .book ++ more))
 
 -- What a house can reach has each commit once.
-unfoldable pub each-once : List ℕ → Bool
-each-once [] = true
-each-once (k ∷ ks) = not (has ks k) && each-once ks
-
 unfoldable pub Reach-once : Type 0
 Reach-once = (b : Book) (x : Clone) → each-once (reached b x) ≡ true
 

@@ -10,6 +10,7 @@ use lib.ListN.{length}
 use Rattle.std.specs.Orderings.{Decides}
 use Rattle.std.proofs.shelf.Tests.{true≢false, false≢true, eqb-true, eqb-false, eq-eqb, ne-eqb, and-parts, and-from, not-true, not-from-false, not-from-true, ltb-true, lt-ltb, cases-order}
 use Rattle.std.proofs.shelf.Ways.{decides-eqb, tells}
+use Rattle.pages.specs.Laws.{Rows-ordered}
 use Rattle.pages.specs.Lists.{pick, or, every, any, each, those, flat, same, earlier, has, none-of, first-of, first-or, distinct, added-up, zeros, so-many}
 
 -- PICK
@@ -444,3 +445,7 @@ or-parts false t e = (refl, e)
 pub first-or-every : (p : ℕ → Bool) (d : ℕ) (ks : List ℕ) → none-of ks ≡ false → every p ks ≡ true → p (first-or d ks) ≡ true
 first-or-every p d [] n h = absurd (true≢false n)
 first-or-every p d (k ∷ ks) n h = and-parts (p k) (every p ks) h .0
+
+pub rows-ordered : Rows-ordered
+unfolding Rows-ordered
+rows-ordered xs ys zs = (same-true xs ys, same-refl xs, earlier-refl xs, earlier-trans xs ys zs, earlier-total xs ys)

@@ -10,8 +10,8 @@ use Rattle.std.proofs.shelf.Tests.{true≢false, false≢true, and-parts, and-f
 use Rattle.pages.specs.Lists.{pick, every, each, those, same, earlier, none-of}
 use Rattle.pages.proofs.ListLaws.{pick-both, pick-true, pick-false, false-unless, same-test, In, in-left, in-right, in-append, same-true, same-refl, same-from, same-false, same-sym, those-append, those-in, in-those, Once, once-those, length-those, length-each}
 use Rattle.trees.specs.Tree.{File, Tree, found, alike, put, without, set, paths, both, rising-paths, changed, clash, joined-at, joined-over, joined, clashes}
-use Rattle.trees.specs.Laws.{Joined-right, One-side}
-use Rattle.trees.proofs.TreeLaws.{alike-true, alike-refl, alike-from, alike-sym, found-one, found-in, found-out, in-found, found-put-same, found-put-other, found-without-other, found-set-other, set-rising, paths-put, paths-without, in-both-left, in-both-right, both-rising, both-in, set-every, found-every, once-paths, length-both}
+use Rattle.trees.specs.Laws.{Joined-right, One-side, Files-found, One-tree}
+use Rattle.trees.proofs.TreeLaws.{found-without-same, put-rising, without-rising, rising-alike, alike-true, alike-refl, alike-from, alike-sym, found-one, found-in, found-out, in-found, found-put-same, found-put-other, found-without-other, found-set-other, set-rising, paths-put, paths-without, in-both-left, in-both-right, both-rising, both-in, set-every, found-every, once-paths, length-both}
 
 -- how often a path stands in a list
 abbrev pub times : List ℕ → List (List ℕ) → ℕ
@@ -277,3 +277,13 @@ clashes-few bases ours theirs =
     let b : length (paths (both ours theirs)) ≡ length (both ours theirs) = length-each (λ f. f .path) (both ours theirs) in
     let c : length (both ours theirs) ≤ length ours + length theirs = length-both theirs ours in
     omega arith
+
+pub files-found : Files-found
+unfolding Files-found
+files-found t p b q h n =
+    let d : p ≡ q → ⊥ = same-false p q n in
+    (found-put-same p b t, found-put-other p b t q d, found-without-same p t h, found-without-other p t q d, put-rising p b t h, without-rising p t h)
+
+pub one-tree : One-tree
+unfolding One-tree
+one-tree = (rising-alike, joined-rising)
