@@ -5,3 +5,4 @@ pub mod DeviceLaws
 pub mod WordLaws
 pub mod TapeLaws
 pub mod EngineLaws
+pub mod Sound

@@ -4,11 +4,13 @@ use mathlib.Core.Bool.{Bool, true, false, _&&_}
 use mathlib.Core.List.{List, [], _∷_, _++_, append-nil, append-assoc}
 use Prim.Native.Nat.{ℕ, zero, suc, _+_, _*_, _-_, _^_, _≤_, _<_}
 use native.Mathlib.Nat.{pow-le-pow-right, zero-add, suc-add}
+use native.Mathlib.Numerals.{add-one}
 use native.Mathlib.Omega.{arith}
+use borrow.Rule.Slice.PartMut.{putMid}
 use lib.Dec.{eqb, ltb}
 use lib.ListN.{length, getD, take, drop, length-append, length-take, length-drop, take-append-drop}
 use Rattle.std.proofs.shelf.Tests.{ltb-true, lt-ltb, eq-eqb, eqb-true, and-parts, and-from}
-use Rattle.std.proofs.shelf.Lists.{take-at, drop-at, take-all, length-take-le}
+use Rattle.std.proofs.shelf.Lists.{take-at, drop-at, drop-drop, take-all, take-more, length-take-le}
 use Rattle.pages.specs.Lists.{pick, every, flat, zeros}
 use Rattle.pages.specs.Bytes.{eight, in-bytes, from-bytes, all-bytes}
 use Rattle.pages.specs.Device.{Page, a-page}
@@ -184,3 +186,30 @@ pub head-words : (h : List ℕ) → length h ≡ 32 → small h ≡ true → tak
 head-words h l s =
     ap (λ p. take 32 (page-words p)) (head-page-is h l)
     ∙ ap (take 32) (words-of-page (h ++ zeros 32) (padded h l) (small-append h (zeros 32) s (small-zeros 32))) ∙ take-at h (zeros 32) 32 l
+
+-- one word more, out of a page and into a row
+pub words-more : (i : ℕ) (bs : List ℕ) → words (i + 1) bs ≡ words i bs ++ from-bytes 0 (take 8 (drop (8 * i) bs)) ∷ []
+unfolding words
+words-more i bs = ap (λ n. words n bs) (add-one i) ∙ go i bs
+  where
+    go : (i : ℕ) (bs : List ℕ) → words (suc i) bs ≡ words i bs ++ from-bytes 0 (take 8 (drop (8 * i) bs)) ∷ []
+    go zero bs = refl
+    go (suc i) bs =
+        let e : 8 + 8 * i ≡ 8 * suc i = omega arith in
+        ap (λ xs. from-bytes 0 (take 8 bs) ∷ xs) (go i (drop 8 bs))
+        ∙ ap (λ xs. from-bytes 0 (take 8 bs) ∷ (words i (drop 8 bs) ++ from-bytes 0 (take 8 xs) ∷ [])) (drop-drop (8 * i) 8 bs ∙ ap (λ n. drop n bs) e)
+
+pub put-more : (ws out was new : List ℕ) (i : ℕ) → i < length ws → 8 * length ws ≤ length was → out ≡ bytes-of (take i ws) ++ drop (8 * i) was →
+    new ≡ eight (getD ws i 0) → putMid (8 * i) (8 * i + 8 - 8 * i) out new ≡ bytes-of (take (i + 1) ws) ++ drop (8 * (i + 1)) was
+unfolding bytes-of
+put-more ws out was new i h b e n =
+    let front : List ℕ = bytes-of (take i ws) in
+    let l : length front ≡ 8 * i = length-bytes-of (take i ws) ∙ ap (λ k. 8 * k) (length-take-le i ws (omega arith)) in
+    let k : 8 * i + 8 - 8 * i ≡ 8 = omega arith in
+    let s : 8 * i + 8 ≡ 8 * (i + 1) = omega arith in
+    ap₂ (λ xs j. take (8 * i) xs ++ (new ++ drop j (drop (8 * i) xs))) e k
+    ∙ ap₂ (λ xs ys. xs ++ (new ++ drop 8 ys)) (take-at front (drop (8 * i) was) (8 * i) l) (drop-at front (drop (8 * i) was) (8 * i) l)
+    ∙ ap₂ (λ xs ys. front ++ (xs ++ ys)) n (drop-drop 8 (8 * i) was ∙ ap (λ j. drop j was) s)
+    ∙ sym (append-assoc front (eight (getD ws i 0)) (drop (8 * (i + 1)) was))
+    ∙ ap (λ xs. xs ++ drop (8 * (i + 1)) was)
+      (ap (λ xs. front ++ xs) (sym (append-nil (eight (getD ws i 0)))) ∙ sym (bytes-of-append (take i ws) (getD ws i 0 ∷ [])) ∙ ap bytes-of (sym (take-more ws i 0 h)))

@@ -5,6 +5,7 @@ pub mod Run
 pub mod Crash
 pub mod Laws
 pub mod Words
+pub mod Told
 pub mod Machine
 pub mod Engine
 pub mod Tape

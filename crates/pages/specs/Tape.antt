@@ -7,11 +7,12 @@ use Prim.Native.Nat.{ℕ, zero, suc, _+_, _*_, _≤_, _<_}
 use lib.ListN.{length, getD, take, drop}
 use Rattle.pages.specs.Words.{small, bytes-of, over}
 use Rattle.pages.specs.Device.{Device, page-at, read-page, stopped}
-use Rattle.pages.specs.Run.{World}
-use Rattle.pages.specs.Crash.{Rows}
+use Rattle.pages.specs.Run.{World, said}
+use Rattle.pages.specs.Crash.{Rows, Goes}
 use Rattle.pages.specs.Laws.{elsewhere}
 use Rattle.pages.specs.Machine.{Asked, Program, buffer-words, row-bytes, place, head-page, wanted}
-use Rattle.pages.specs.Engine.{Housed, image, bulk-cells}
+use Rattle.pages.specs.Engine.{Housed, image, bulk-cells, engine, Lawful}
+use Rattle.pages.specs.declared.machine.Machine.{Machine}
 use Rattle.pages.specs.declared.machine.Request.the-variants.{Recall, Look, Object, Lay, Publish, Show, Finish}
 use Rattle.pages.specs.declared.machine.Serving.the-variants.{Idle}
 
@@ -36,6 +37,7 @@ pub record Window (n : ℕ) (h t : List ℕ) (laid : ℕ) : Type 0 where
   pub head-small : small h ≡ true
   pub tape-length : length t ≡ 64 * laid
   pub tape-small : small t ≡ true
+  pub bounded : 64 * laid < 18446744073709551616
   pub rising : first-page h ≤ last-page h
   pub within : last-page h ≤ laid
   pub room : laid ≤ first-page h + n
@@ -71,7 +73,7 @@ pub data Does {K : Type 0} (p : Program K) (n : ℕ) (Stop : List ℕ → List �
       Does p n Stop End a h t laid ss
   lays :
       (a : Asked K) (h t : List ℕ) (laid : ℕ) (ss : Rows) (pages : ℕ) → a .request ≡ Lay laid pages → 1 ≤ pages → pages ≤ 642 →
-      laid + pages ≤ first-page h + n →
+      laid + pages ≤ first-page h + n → 64 * (laid + pages) < 18446744073709551616 →
       Does p n Stop End (p .resumes (a .state) (a .memory)) h (t ++ take (64 * pages) (a .memory)) (laid + pages) ss → Does p n Stop End a h t laid ss
   publishes :
       (a : Asked K) (h t : List ℕ) (laid : ℕ) (ss : Rows) → a .request ≡ Publish → first-page h ≤ first-page (take 32 (a .memory)) →
@@ -97,3 +99,12 @@ unfoldable pub Held : {K : Type 0} → Housed K → (n : ℕ) → Bool → (K �
 Held {K} f n still End other w there ss reply =
     (there ≡ other) × (k : K) × (m : List ℕ) × (h : List ℕ) × (t : List ℕ) × (laid : ℕ) × Tied n still (w .device) h t laid
     × (w .memory ≡ image f (record { ring = n; serving = Idle }) k m) × (w .up ≡ true) × (small m ≡ true) × (length m ≡ bulk-cells) × End k m h t laid ss reply
+
+-- A client that goes well on the tape goes well on the device, whatever the stops: for every client that keeps its cells and bounds, and whatever is asked
+-- of stops and of the end.
+unfoldable pub On-the-device : {K : Type 0} → (List ℕ → List ℕ → Rows → Type 0) → (K → List ℕ → List ℕ → List ℕ → ℕ → Rows → ℕ → Type 0) → Type 0
+On-the-device {K} Stop End =
+    (f : Housed K) → Lawful f → (n ls : ℕ) (still : Bool) (w other : World) (h t : List ℕ) (laid : ℕ) (r : Machine) (k : K) (m text : List ℕ) →
+    Tied n still (w .device) h t laid → w .up ≡ true → w .memory ≡ image f r k m → r .ring ≡ n → length m ≡ bulk-cells → small (f .save k) ≡ true →
+    small m ≡ true → Stop h (published h t) [] → Does (f .program) n Stop End (f .program .hears k m text) h t laid [] →
+    Goes (engine f) (Safe n Stop other) (Held f n still End other) ls w other (said text) []

@@ -2,3 +2,5 @@
 pub mod bytes;
 pub mod laws;
 pub mod machine;
+pub mod told;
+pub mod words;
