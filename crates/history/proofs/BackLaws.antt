@@ -13,7 +13,7 @@ use Rattle.pages.specs.Lists.{pick, or, every, any, each, those, flat, same, ha
 use Rattle.pages.proofs.ListLaws.{pick-both, pick-true, pick-false, false-unless, or-cases, In, in-left, in-right, in-append, every-in, every-from, any-in, any-from, any-none, none-any, has-in, in-has, has-not, has-alike, those-in, in-those, flat-in, in-flat, Once, once-end, once-those, once-length}
 use Rattle.std.proofs.shelf.Ways.{decides-eqb}
 use Rattle.history.specs.Book.{Commit, Book, Sum, nth, up-to, added, closed, back, under, common, latest-common}
-use Rattle.history.specs.Laws.{Grown, Latest-right}
+use Rattle.history.specs.Laws.{Grown, each-once, Latest-right, Back-right, Under-right}
 use Rattle.history.proofs.BookLaws.{nth-beyond, parent-lower, parent-within, in-up-to, up-to-in, once-up-to, length-up-to}
 
 -- ADDED
@@ -273,3 +273,36 @@ latest-right b j k g lj lk = (
   latest-only b j k g,
   λ i h. latest-above b j k g j i (omega arith) (has-in (common b j k) i h),
 )
+
+-- THE LAWS OF WHAT COMES BEFORE
+
+pub each-once-from : (ks : List ℕ) → Once ks → each-once ks ≡ true
+unfolding each-once
+each-once-from [] o = refl
+each-once-from (k ∷ ks) o = and-from _ _ (not-from-false (has ks k) (false-unless (has ks k) (λ h. o .0 (has-in ks k h)))) (each-once-from ks (o .1))
+
+pub each-once-once : (ks : List ℕ) → each-once ks ≡ true → Once ks
+unfolding each-once
+each-once-once [] h = tt
+each-once-once (k ∷ ks) h =
+    let a : (not (has ks k) ≡ true) × (each-once ks ≡ true) = and-parts _ _ h in
+    (has-not ks k (not-true (has ks k) (a .0)), each-once-once ks (a .1))
+
+-- what holds of a commit and, with any, of its parents, holds all the way back
+pub steps-hold : (b : Book) (all : ℕ → Bool) → ((k : ℕ) → all k ≡ true → every all (nth b k .parents) ≡ true) → (n k j : ℕ) → Steps b n k j → all k ≡ true → all j ≡ true
+steps-hold b all f zero k j s h = subst (λ z. all z ≡ true) s h
+steps-hold b all f (suc n) k j s h = steps-hold b all f n (s .0) j (s .2) (every-in all (nth b k .parents) (f k h) (s .0) (s .1))
+
+pub back-right : Back-right
+unfolding Back-right
+back-right b ks g = (
+  λ k h. in-has (back b ks) k (back-self b ks k g (has-in ks k h)),
+  λ k j h p. in-has (back b ks) j (back-parents b ks k j g (has-in (back b ks) k h) (has-in (nth b k .parents) j p)),
+  λ all h f. every-from all (back b ks) (λ j i. let r : (k : ℕ) × In k ks × Comes b k j = back-in b ks j i in
+      steps-hold b all f (r .2 .0) (r .0) j (r .2 .1) (every-in all ks h (r .0) (r .1))),
+  λ o. each-once-from (back b ks) (once-back b ks (each-once-once ks o)),
+)
+
+pub under-right : Under-right
+unfolding Under-right
+under-right b i j k g = (under-self b k g, under-lower b j k g, under-trans b i j k g)

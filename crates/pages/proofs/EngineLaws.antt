@@ -64,10 +64,13 @@ module _ {K : Type 0} (f : Housed K) (law : Lawful f) where
     where
       ap₃ : {A B C D : Type 0} (g : A → B → C → D) {a a₁ : A} {b b₁ : B} {c c₁ : C} → a ≡ a₁ → b ≡ b₁ → c ≡ c₁ → g a b c ≡ g a₁ b₁ c₁
       ap₃ g p q s = λ i. g (p i) (q i) (s i)
+
       behind : drop 8 (image f r k m) ≡ f .save k ++ m
       behind = drop-at (machine-cells r) (f .save k ++ m) 8 (machine-cells-length r)
+
       cells-are : f .load (take 120 (drop 8 (image f r k m))) ≡ k
       cells-are = ap (λ (x : List ℕ). f .load (take 120 x)) behind ∙ ap (f .load) (take-at (f .save k) m 120 (law .save-length k)) ∙ law .load-save k
+
       rest-is : drop 128 (image f r k m) ≡ m
       rest-is =
           ap (drop 128) (sym (append-assoc (machine-cells r) (f .save k) m))
@@ -114,12 +117,12 @@ module _ {K : Type 0} (f : Housed K) (law : Lawful f) where
 
   begun-fit : (P : Type 0) (n : ℕ) (a : Asked K) → (P → n < 2 ^ 64) → length (a .memory) ≡ bulk-cells → (P → Small f a) → Fit P (begun n a)
   begun-fit P n a h l s =
-      record
-          { length-kept = l
-          ; machine-small = λ p. cells-small n (first-serving (a .request)) (h p) (first-small (a .request) (s p .request))
-          ; state-small = λ p. s p .state
-          ; memory-small = λ p. s p .memory
-          }
+      record {
+        length-kept = l;
+        machine-small = λ p. cells-small n (first-serving (a .request)) (h p) (first-small (a .request) (s p .request));
+        state-small = λ p. s p .state;
+        memory-small = λ p. s p .memory;
+      }
 
   resumed-fit : (P : Type 0) (n : ℕ) (k : K) (m : List ℕ) → From P n k m → Fit P (begun n (f .program .resumes k m))
   resumed-fit P n k m o =
@@ -130,12 +133,12 @@ module _ {K : Type 0} (f : Housed K) (law : Lawful f) where
   served-on : (P : Type 0) (n : ℕ) (s : Serving) (k : K) (m : List ℕ) → From P n k m → (P → small (serving-cells s) ≡ true) → {v : Moved K} →
       v .machine ≡ record { ring = n; serving = s } → v .state ≡ k → v .memory ≡ m → Fit P v
   served-on P n s k m o sc {v} e₁ e₂ e₃ =
-      record
-          { length-kept = ap length e₃ ∙ o .length-is
-          ; machine-small = λ p. ap (λ (r : Machine). small (machine-cells r)) e₁ ∙ cells-small n s (o .ring-small p) (sc p)
-          ; state-small = λ p. ap (λ (x : K). small (f .save x)) e₂ ∙ o .state-small p
-          ; memory-small = λ p. ap small e₃ ∙ o .memory-small p
-          }
+      record {
+        length-kept = ap length e₃ ∙ o .length-is;
+        machine-small = λ p. ap (λ (r : Machine). small (machine-cells r)) e₁ ∙ cells-small n s (o .ring-small p) (sc p);
+        state-small = λ p. ap (λ (x : K). small (f .save x)) e₂ ∙ o .state-small p;
+        memory-small = λ p. ap small e₃ ∙ o .memory-small p;
+      }
 
   stays : (P : Type 0) (n : ℕ) (k : K) (m : List ℕ) → From P n k m → Fit P (unexpected n k m)
   unfolding small
@@ -144,24 +147,31 @@ module _ {K : Type 0} (f : Housed K) (law : Lawful f) where
   -- words that came over the buffer
   over-from : (P : Type 0) (n got : ℕ) (new : List ℕ) (k : K) (m : List ℕ) → From P n k m → length new ≤ 41088 - got → small new ≡ true → From P n k (over got new m)
   over-from P n got new k m o h s =
-      record
-          { length-is =
-              omega (arith, length-append (take got m) (new ++ drop (got + length new) m), length-append new (drop (got + length new) m), length-take got m
-              , length-drop (got + length new) m, o .length-is)
-          ; ring-small = o .ring-small
-          ; state-small = o .state-small
-          ; memory-small = λ p. small-over got new m s (o .memory-small p)
-          }
+      record {
+        length-is =
+            omega (
+              arith,
+              length-append (take got m) (new ++ drop (got + length new) m),
+              length-append new (drop (got + length new) m),
+              length-take got m,
+              length-drop (got + length new) m,
+              o .length-is,
+            );
+        ring-small = o .ring-small;
+        state-small = o .state-small;
+        memory-small = λ p. small-over got new m s (o .memory-small p);
+      }
 
   looked-fit : (P : Type 0) (n at left got : ℕ) (ws : List ℕ) (k : K) (m : List ℕ) → From P n k m → (P → left < 2 ^ 64) → (P → got < 2 ^ 64) → small ws ≡ true →
       Fit P (go-on (f .program) n k (looked at left got ws m))
   looked-fit P n at left got ws k m o hl hg sw =
       pick-both (Fit P) (leb left (taken at left got)) _ _ (λ _. resumed-fit P n k (over got part m) then)
       (λ _. served-on P n (Looking (min (at + taken at left got) 18446744073709551615) (left - taken at left got) (got + taken at left got)) k (over got part m) then
-          (λ p. let l : left < 2 ^ 64 = hl p in let g : got < 2 ^ 64 = hg p in four 2 _ _ _ (omega arith) (omega arith) (omega arith) (omega arith)) refl refl refl)
+      (λ p. let l : left < 2 ^ 64 = hl p in let g : got < 2 ^ 64 = hg p in four 2 _ _ _ (omega arith) (omega arith) (omega arith) (omega arith)) refl refl refl)
     where
       part : List ℕ
       part = take (taken at left got) (drop (at % 64) ws)
+
       then : From P n k (over got part m)
       then =
           over-from P n got part k m o (omega (arith, length-take (taken at left got) (drop (at % 64) ws)))
@@ -185,9 +195,9 @@ module _ {K : Type 0} (f : Housed K) (law : Lawful f) where
   laid-fit P n v left from k m o hl =
       pick-both (Fit P) (or (eqb left 0) (ltb 41024 from)) _ _ (λ _. resumed-fit P n k m o)
       (λ e. served-on P n (Laying (min (v + 1) 18446744073709551615) (left - 1) (from + 64)) k m o
-          (λ p. let l : left < 2 ^ 64 = hl p in let b : from ≤ 41024 = ltb-false 41024 from (or-false (eqb left 0) (ltb 41024 from) e) in
-              four 4 _ _ _ (omega arith) (omega arith) (omega arith) (omega arith))
-          refl refl refl)
+      (λ p. let l : left < 2 ^ 64 = hl p in let b : from ≤ 41024 = ltb-false 41024 from (or-false (eqb left 0) (ltb 41024 from) e) in
+      four 4 _ _ _ (omega arith) (omega arith) (omega arith) (omega arith))
+      refl refl refl)
     where
       or-false : (s t : Bool) → or s t ≡ false → t ≡ false
       or-false true t e = absurd (true≢false e)
@@ -210,12 +220,12 @@ module _ {K : Type 0} (f : Housed K) (law : Lawful f) where
   unfolding small
   served-fit P n s k m (on c hs ps) o sc =
       served-on P (max 1 (min ps 18446744073709551615 - 1)) Idle (f .program .wakes k c hs ps) m
-      (record
-          { length-is = o .length-is
-          ; ring-small = λ _. omega arith
-          ; state-small = λ p. law .wakes-small k c hs ps (o .state-small p)
-          ; memory-small = o .memory-small
-          })
+      (record {
+        length-is = o .length-is;
+        ring-small = λ _. omega arith;
+        state-small = λ p. law .wakes-small k c hs ps (o .state-small p);
+        memory-small = o .memory-small;
+      })
       (λ _. refl) refl refl refl
   served-fit P n s k m (said text) o sc =
       begun-fit P n (f .program .hears k m text) (o .ring-small) (law .hears-length k m text ∙ o .length-is)
@@ -245,13 +255,13 @@ module _ {K : Type 0} (f : Housed K) (law : Lawful f) where
   keeps-length m ev =
       pick-both (λ (s : Step). length (s .memory) ≡ length m) (eqb (length m) memory-cells) (stepped-in f m ev) (record { memory = m; act = done })
       (λ e.
-          let l : length m ≡ memory-cells = eqb-true (length m) memory-cells e in
-          let x : Moved K = served (f .program) (machine-in m) (f .load (take 120 (drop 8 m))) (drop 128 m) ev in
-          let v : Fit ⊥ x =
-              served-fit ⊥ (machine-in m .ring) (machine-in m .serving) (f .load (take 120 (drop 8 m))) (drop 128 m) ev
-              (record { length-is = omega (arith, length-drop 128 m); ring-small = λ p. absurd p; state-small = λ p. absurd p; memory-small = λ p. absurd p })
-              (λ p. absurd p) in
-          image-length (x .machine) (x .state) (x .memory) (v .length-kept) ∙ sym l)
+      let l : length m ≡ memory-cells = eqb-true (length m) memory-cells e in
+      let x : Moved K = served (f .program) (machine-in m) (f .load (take 120 (drop 8 m))) (drop 128 m) ev in
+      let v : Fit ⊥ x =
+      served-fit ⊥ (machine-in m .ring) (machine-in m .serving) (f .load (take 120 (drop 8 m))) (drop 128 m) ev
+      (record { length-is = omega (arith, length-drop 128 m); ring-small = λ p. absurd p; state-small = λ p. absurd p; memory-small = λ p. absurd p })
+      (λ p. absurd p) in
+      image-length (x .machine) (x .state) (x .memory) (v .length-kept) ∙ sym l)
       (λ _. refl)
 
   pub keeps-small : (m : List ℕ) (ev : Event) → small m ≡ true → small (engine f .step m ev .memory) ≡ true
@@ -259,15 +269,15 @@ module _ {K : Type 0} (f : Housed K) (law : Lawful f) where
   keeps-small m ev h =
       pick-both (λ (s : Step). small (s .memory) ≡ true) (eqb (length m) memory-cells) (stepped-in f m ev) (record { memory = m; act = done })
       (λ e.
-          let l : length m ≡ memory-cells = eqb-true (length m) memory-cells e in
-          let v : Fit (Unit {0}) (served (f .program) (machine-in m) (f .load (take 120 (drop 8 m))) (drop 128 m) ev) =
-              served-fit (Unit {0}) (machine-in m .ring) (machine-in m .serving) (f .load (take 120 (drop 8 m))) (drop 128 m) ev
-              (record
-                  { length-is = omega (arith, length-drop 128 m)
-                  ; ring-small = λ _. small-getD m 0 h
-                  ; state-small = λ _. law .load-small (take 120 (drop 8 m)) (small-take 120 (drop 8 m) (small-drop 8 m h))
-                  ; memory-small = λ _. small-drop 128 m h
-                  })
-              (λ _. serving-in-small (getD m 1 0) (getD m 2 0) (getD m 3 0) (getD m 4 0) (small-getD m 2 h) (small-getD m 3 h) (small-getD m 4 h)) in
-          small-append _ _ (v .machine-small tt) (small-append _ _ (v .state-small tt) (v .memory-small tt)))
+      let l : length m ≡ memory-cells = eqb-true (length m) memory-cells e in
+      let v : Fit (Unit {0}) (served (f .program) (machine-in m) (f .load (take 120 (drop 8 m))) (drop 128 m) ev) =
+      served-fit (Unit {0}) (machine-in m .ring) (machine-in m .serving) (f .load (take 120 (drop 8 m))) (drop 128 m) ev
+      (record {
+        length-is = omega (arith, length-drop 128 m);
+        ring-small = λ _. small-getD m 0 h;
+        state-small = λ _. law .load-small (take 120 (drop 8 m)) (small-take 120 (drop 8 m) (small-drop 8 m h));
+        memory-small = λ _. small-drop 128 m h;
+      })
+      (λ _. serving-in-small (getD m 1 0) (getD m 2 0) (getD m 3 0) (getD m 4 0) (small-getD m 2 h) (small-getD m 3 h) (small-getD m 4 h)) in
+      small-append _ _ (v .machine-small tt) (small-append _ _ (v .state-small tt) (v .memory-small tt)))
       (λ _. h)

@@ -62,8 +62,13 @@ small-getD (x ∷ xs) (suc i) h = small-getD xs i (small-first x xs h .1)
 
 pub length-over : (g : ℕ) (new old : List ℕ) → g + length new ≤ length old → length (over g new old) ≡ length old
 length-over g new old h =
-    omega (arith, length-append (take g old) (new ++ drop (g + length new) old), length-append new (drop (g + length new) old), length-take g old
-    , length-drop (g + length new) old)
+    omega (
+      arith,
+      length-append (take g old) (new ++ drop (g + length new) old),
+      length-append new (drop (g + length new) old),
+      length-take g old,
+      length-drop (g + length new) old,
+    )
 
 pub length-zeros : (n : ℕ) → length (zeros n) ≡ n
 unfolding zeros

@@ -40,10 +40,10 @@ machine-cells r = r .ring ∷ serving-cells (r .serving) ++ 0 ∷ 0 ∷ 0 ∷ []
 abbrev pub serving-in : ℕ → ℕ → ℕ → ℕ → Serving
 serving-in code a b c =
     pick (eqb code 1) Recalling
-        (pick (eqb code 2) (Looking a b c)
-            (pick (eqb code 3) (Opening a b)
-                (pick (eqb code 4) (Laying a b c)
-                    (pick (eqb code 5) Flushing (pick (eqb code 6) Heading (pick (eqb code 7) Settling (pick (eqb code 8) Showing Idle)))))))
+    (pick (eqb code 2) (Looking a b c)
+    (pick (eqb code 3) (Opening a b)
+    (pick (eqb code 4) (Laying a b c)
+    (pick (eqb code 5) Flushing (pick (eqb code 6) Heading (pick (eqb code 7) Settling (pick (eqb code 8) Showing Idle)))))))
 
 abbrev pub machine-in : List ℕ → Machine
 machine-in m = record { ring = getD m 0 0; serving = serving-in (getD m 1 0) (getD m 2 0) (getD m 3 0) (getD m 4 0) }

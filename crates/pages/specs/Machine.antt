@@ -110,12 +110,12 @@ taken at left got = min (64 - at % 64) (min left (buffer-words - got))
 
 abbrev pub looked : ℕ → ℕ → ℕ → List ℕ → List ℕ → Looked
 looked at left got ws m =
-    record
-        { whole = leb left (taken at left got)
-        ; serving = Looking (capped (at + taken at left got)) (left - taken at left got) (got + taken at left got)
-        ; from = capped (at + taken at left got)
-        ; memory = over got (take (taken at left got) (drop (at % 64) ws)) m
-        }
+    record {
+      whole = leb left (taken at left got);
+      serving = Looking (capped (at + taken at left got)) (left - taken at left got) (got + taken at left got);
+      from = capped (at + taken at left got);
+      memory = over got (take (taken at left got) (drop (at % 64) ws)) m;
+    }
 
 -- an object's first word has its length in the lower 32 bits
 abbrev pub wanted : ℕ → ℕ → ℕ
@@ -144,7 +144,7 @@ page-came p n k m ws Showing = unexpected n k m
 abbrev pub laid-on : {K : Type 0} → Program K → ℕ → K → List ℕ → ℕ → ℕ → ℕ → Moved K
 laid-on p n k m v left from =
     pick (or (eqb left 0) (ltb 41024 from)) (begun n (p .resumes k m))
-        (moved n (Laying (capped (v + 1)) (left - 1) (from + 64)) k m (write (place n (capped (v + 1))) (bytes-of (take 64 (drop from m)))))
+    (moved n (Laying (capped (v + 1)) (left - 1) (from + 64)) k m (write (place n (capped (v + 1))) (bytes-of (take 64 (drop from m)))))
 
 abbrev pub act-done : {K : Type 0} → Program K → ℕ → K → List ℕ → Serving → Moved K
 act-done p n k m Idle = unexpected n k m

@@ -69,7 +69,7 @@ pub data Does {K : Type 0} (p : Program K) (n : ℕ) (Stop : List ℕ → List �
       (a : Asked K) (h t : List ℕ) (laid : ℕ) (ss : Rows) (at limit : ℕ) → a .request ≡ Object at limit → 64 * first-page h ≤ at →
       at + wanted limit (getD t at 0) ≤ 64 * laid →
       (small (take (wanted limit (getD t at 0)) (drop at t)) ≡ true →
-        Does p n Stop End (p .resumes (a .state) (over 0 (take (wanted limit (getD t at 0)) (drop at t)) (a .memory))) h t laid ss) →
+      Does p n Stop End (p .resumes (a .state) (over 0 (take (wanted limit (getD t at 0)) (drop at t)) (a .memory))) h t laid ss) →
       Does p n Stop End a h t laid ss
   lays :
       (a : Asked K) (h t : List ℕ) (laid : ℕ) (ss : Rows) (pages : ℕ) → a .request ≡ Lay laid pages → 1 ≤ pages → pages ≤ 642 →

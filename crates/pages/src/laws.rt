@@ -3,7 +3,7 @@ ghost use Prim.Native.Nat.{ℕ};
 ghost use mathlib.Core.List.{List};
 ghost use Rattle.pages.specs.Crash.{Rows, Runs-well};
 ghost use Rattle.pages.specs.Device.{Device};
-ghost use Rattle.pages.specs.Laws.{Flushed-stays};
+ghost use Rattle.pages.specs.Laws.{Flushed-stays, Rows-ordered};
 ghost use Rattle.pages.specs.Run.{World};
 ghost use Rattle.pages.specs.Tape.{On-the-device};
 
@@ -24,6 +24,13 @@ pub trait Promises {
 // A run that goes well by the crash logic, whatever is promised of its stops and its end, ends well, and may be stopped after any of its acts.
 pub fn runs_well<P: Promises>(p: &P) -> u8
     ensures { λ _. ⌜ Runs-well (stop (now (p .entry))) (end (now (p .entry))) ⌝ }
+{
+    0
+}
+
+// Rows are the same if they are equal, and of two different rows one is earlier.
+pub fn rows_are_ordered() -> u8
+    ensures { λ _. ⌜ Rows-ordered ⌝ }
 {
     0
 }
