@@ -59,6 +59,7 @@ fn is_house(text: &[u8]) -> bool
     text.len() == 8 && number(text) < 16
 }
 
+// The command, if the test holds.
 fn when<'a>(so: bool, command: Command<'a>) -> Option<Command<'a>>
     ensures { λ r. ⌜ meaning r ≡ if-so so (meant (command .entry)) ⌝ }
 {

@@ -16,12 +16,14 @@ use crate::parts::REF;
 use crate::parts::TEXT;
 use pages::bytes::in_eight;
 
+// The piece of a name or a path.
 fn name<'a>(bytes: &'a [u8]) -> Piece<'a>
     ensures { λ r. ⌜ r ≡ Row (bytes .entry) 1 64 ⌝ }
 {
     Piece::Row(bytes, 1, NAME)
 }
 
+// The kind and the pieces of a command, each with its limits.
 fn parts<'a>(command: Command<'a>) -> Parts<'a>
     ensures { λ r. ⌜ r ≡ parts-of (command .entry) ⌝ }
 {
@@ -93,7 +95,7 @@ fn put(out: &mut [u8], at: usize, bytes: &[u8]) -> usize
     end
 }
 
-// Writes a row with its length in front.
+// Writes bytes with their length in front.
 fn put_row(out: &mut [u8], at: usize, bytes: &[u8]) -> usize
     requires { ⌜ at + (8 + length (now bytes)) ≤ length (now out) ⌝ }
     ensures row { λ _. ⌜ now (out .exit) ≡ written (now (out .entry)) at (with-length (now (bytes .entry))) ⌝ }
@@ -104,6 +106,7 @@ fn put_row(out: &mut [u8], at: usize, bytes: &[u8]) -> usize
     put(out, middle, bytes)
 }
 
+// Writes a piece over the row from `at` on, and says where it ends.
 fn put_piece(out: &mut [u8], at: usize, piece: Piece) -> usize
     requires { ⌜ at + length (piece-bytes piece) ≤ length (now out) ⌝ }
     ensures row { λ _. ⌜ now (out .exit) ≡ written (now (out .entry)) at (piece-bytes (piece .entry)) ⌝ }

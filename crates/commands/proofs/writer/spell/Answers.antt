@@ -22,7 +22,7 @@ pub returns-then-out-first-size : need.returns-then-out-first-size
 returns-then-out-first-size c =
     let h =
     room-refused (c .args .command) (c .args .out .now) (c .parts-kind .result) (c .parts-kind .ensures) _ _
-    (c .in-Continue-first-size .ensures tt .is) (c .in-Continue-second-size .ensures tt .is) (c .if-out-first-size .taken) in
+    (c .in-Continue-first-size .ensures tt .is) (c .in-Continue-second-size .ensures tt .is) (omega arith) in
     record { size = h .0; row = h .1 }
 
 pub returns : need.returns
@@ -34,7 +34,7 @@ returns c =
     let second = piece-bytes (parts .second) in
     let h =
     accepted (c .args .command) out parts (c .parts-kind .ensures) _ _ (c .in-Continue-first-size .ensures tt .is) (c .in-Continue-second-size .ensures tt .is)
-    (c .if-out-first-size .left) (c .put-piece-behind-first .ensures .real) (c .put-piece .ensures .real) in
+    (omega arith) (c .put-piece-behind-first .ensures .real) (c .put-piece .ensures .real) in
     let row : c .put-piece-behind-first .last .out ≡ written out 0 (kind ++ first) =
     c .put-piece-behind-first .ensures .row ∙ ap₂ (λ o i. written o i first) (c .put-behind-kind .ensures .row) (c .put-behind-kind .ensures .end) ∙ written-more out 0 kind first (omega arith) in
     let end : c .put-piece-behind-first .result ≡ 0 + length (kind ++ first) = omega arith in
