@@ -1,1 +1,2 @@
 pub mod ParseLaws
+pub mod SpellLaws

@@ -15,12 +15,11 @@ use Rattle.pages.specs.Bytes.{eight, with-length, from-bytes, all-bytes}
 use Rattle.pages.proofs.BytesLaws.{length-eight, length-with-length, all-bytes-append, all-bytes-in-bytes, all-bytes-take, all-bytes-drop, from-eight, eight-from, from-bytes-below, cut-length, cut-rest, cut-back}
 use Rattle.commands.specs.Command.{Command, write-file, drop-file, commit, branch, go-to, history, show-file, status, read-file, join, settle, leave, move-onto, carry, forget, tag, who, sweep, fetch, spelled, fits, a-text}
 use Rattle.commands.specs.Laws.{Spelled-once}
-use Rattle.commands.specs.Meaning.{Answers}
-use Rattle.commands.specs.Parse.{front, behind, first-row, past-row, within, one-row, two-rows, one-house, if-so, of-kind, of-bytes, parsed}
+use Rattle.commands.specs.Parse.{Answers, front, behind, first-row, past-row, within, one-row, two-rows, one-house, if-so, of-kind, of-bytes, parsed}
 
 -- ---- a row with its length in front, read
 
-all-bytes-row : (b : List ℕ) → all-bytes (with-length b) ≡ all-bytes b
+pub all-bytes-row : (b : List ℕ) → all-bytes (with-length b) ≡ all-bytes b
 unfolding all-bytes
 all-bytes-row b = all-bytes-append (eight (length b)) b ∙ ap (λ x. x && all-bytes b) (all-bytes-in-bytes 8 (length b) [])
 

@@ -2,3 +2,4 @@ pub mod Command
 pub mod Laws
 pub mod Parse
 pub mod Meaning
+pub mod Spell

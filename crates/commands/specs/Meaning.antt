@@ -1,13 +1,8 @@
 -- The plain command that a command of the code stands for, its lent rows as they are now.
-use mathlib.Core.Path.{_≡_}
-use mathlib.Core.Bool.{true}
-use mathlib.Core.List.{List}
-use Prim.Native.Nat.{ℕ}
 use denote.Ref.{now}
 use Rattle.std.specs.declared.option.Option.{Option}
 use Rattle.std.specs.declared.option.Option.the-variants.{Some, None}
 use Rattle.commands.specs.Command as plain
-use Rattle.commands.specs.Command.{spelled, fits}
 use Rattle.commands.specs.declared.command.Command.{Command}
 use Rattle.commands.specs.declared.command.Command.the-variants.{WriteFile, DropFile, Commit, Branch, GoTo, History, ShowFile, Status, ReadFile, Join, Settle, Leave, MoveOnto, Carry, Forget, Tag, Who, Sweep, Fetch}
 
@@ -35,8 +30,3 @@ meant (Fetch house) = plain.fetch house
 abbrev pub meaning : Option Command → Option plain.Command
 meaning None = None
 meaning (Some c) = Some (meant c)
-
--- an answer to a text: a command that fits and is spelled so, or none where there is no such command
-abbrev pub Answers : List ℕ → Option plain.Command → Type 0
-Answers text (Some c) = (spelled c ≡ text) × (fits c ≡ true)
-Answers text None = (c : plain.Command) → spelled c ≡ text → fits c ≡ true → ⊥

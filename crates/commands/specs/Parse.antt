@@ -1,4 +1,5 @@
 -- What a row of bytes asks: the command that is spelled so, or none. A total function of any list of numbers.
+use mathlib.Core.Path.{_≡_}
 use mathlib.Core.Bool.{Bool, true, false, _&&_, cond}
 use mathlib.Core.List.{List, [], _∷_}
 use Prim.Native.Nat.{ℕ, _+_}
@@ -7,7 +8,7 @@ use lib.ListN.{length, take, drop}
 use Rattle.std.specs.declared.option.Option.{Option}
 use Rattle.std.specs.declared.option.Option.the-variants.{Some, None}
 use Rattle.pages.specs.Bytes.{from-bytes, all-bytes}
-use Rattle.commands.specs.Command.{Command, write-file, drop-file, commit, branch, go-to, history, show-file, status, read-file, join, settle, leave, move-onto, carry, forget, tag, who, sweep, fetch}
+use Rattle.commands.specs.Command.{Command, write-file, drop-file, commit, branch, go-to, history, show-file, status, read-file, join, settle, leave, move-onto, carry, forget, tag, who, sweep, fetch, spelled, fits}
 
 -- the number in front, and what stands behind it
 abbrev pub front : List ℕ → ℕ
@@ -70,3 +71,8 @@ of-bytes (k ∷ t) = of-kind k t
 
 unfoldable pub parsed : List ℕ → Option Command
 parsed text = cond (all-bytes text) (of-bytes text) None
+
+-- an answer to a text: a command that fits and is spelled so, or none where there is no such command
+abbrev pub Answers : List ℕ → Option Command → Type 0
+Answers text (Some c) = (spelled c ≡ text) × (fits c ≡ true)
+Answers text None = (c : Command) → spelled c ≡ text → fits c ≡ true → ⊥

@@ -1,14 +1,11 @@
 ghost use mathlib.Core.Path.{_≡_};
-ghost use Rattle.commands.specs.Meaning.{Answers, meaning, meant};
-ghost use Rattle.commands.specs.Parse.{behind, first-row, front, if-so, of-bytes, of-kind, one-row, parsed, past-row, two-rows, one-house};
+ghost use Rattle.commands.specs.Meaning.{meaning, meant};
+ghost use Rattle.commands.specs.Parse.{Answers, behind, first-row, if-so, of-kind, one-house, one-row, parsed, past-row, two-rows};
 use crate::command::Command;
+use crate::parts::NAME;
+use crate::parts::REF;
+use crate::parts::TEXT;
 use pages::bytes::number;
-
-const NAME: u64 = 64;
-
-const REF: u64 = 65;
-
-const TEXT: u64 = 65535;
 
 // What stands behind the eight bytes of a number.
 fn after<'a>(text: &'a [u8]) -> &'a [u8]
@@ -36,20 +33,23 @@ fn cut<'a>(text: &'a [u8]) -> (&'a [u8], &'a [u8])
 }
 
 // Whether the text is just one row of low to high bytes with its length in front.
-fn is_row(text: &[u8], low: u64, high: u64) -> bool
+fn is_row(text: &[u8], low: u16, high: u16) -> bool
     ensures { λ r. ⌜ r ≡ one-row low high (now (text .entry)) ⌝ }
 {
     let size = number(text);
-    text.len() >= 8 && text.len() as u64 - 8 == size && low <= size && size <= high
+    text.len() >= 8
+        && text.len() as u64 - 8 == size
+        && u64::from(low) <= size
+        && size <= u64::from(high)
 }
 
 // Whether the text is a row of 1 to `top` bytes with its length in front, and behind it just one more of low to high bytes.
-fn is_two_rows(text: &[u8], top: u64, low: u64, high: u64) -> bool
+fn is_two_rows(text: &[u8], top: u16, low: u16, high: u16) -> bool
     ensures { λ r. ⌜ r ≡ two-rows top low high (now (text .entry)) ⌝ }
 {
     let size = number(text);
     let (_, rest) = cut(text);
-    1 <= size && size <= top && is_row(rest, low, high)
+    1 <= size && size <= u64::from(top) && is_row(rest, low, high)
 }
 
 // Whether the text is just the number of a house.
@@ -59,6 +59,7 @@ fn is_house(text: &[u8]) -> bool
     text.len() == 8 && number(text) < 16
 }
 
+// The command, if the test holds.
 fn when<'a>(so: bool, command: Command<'a>) -> Option<Command<'a>>
     ensures { λ r. ⌜ meaning r ≡ if-so so (meant (command .entry)) ⌝ }
 {

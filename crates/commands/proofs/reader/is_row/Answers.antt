@@ -3,10 +3,10 @@ use Rattle.std.proofs.shelf.Ways.{tells}
 use Rattle.commands.specs.Parse.{one-row}
 use Rattle.commands.proofs.reader.is_row.Needs as need
 
-pub returns-then-low-size : need.returns-then-low-size
+pub returns-then-from-size : need.returns-then-from-size
 unfolding one-row
-returns-then-low-size c = grind (arith, tells)
+returns-then-from-size c = grind (arith, tells)
 
-pub returns-else-low-size : need.returns-else-low-size
+pub returns-else-from-size : need.returns-else-from-size
 unfolding one-row
-returns-else-low-size c = grind (arith, tells)
+returns-else-from-size c = grind (arith, tells)
