@@ -111,36 +111,39 @@ page-of-take t l v h b =
 pub tied-lay : (n : ℕ) (q : Bool) (d : Device) (h t : List ℕ) (laid : ℕ) (ws : List ℕ) → Tied n q d h t laid → suc laid ≤ first-page h + n →
     64 * suc laid < 2 ^ 64 → length ws ≡ 64 → small ws ≡ true → Tied n q (queued d (place n laid) (bytes-of ws)) h (t ++ ws) (suc laid)
 tied-lay n q d h t laid ws td room bound l s =
-    record
-        { window =
-            record
-                { ring = w .ring
-                ; head-length = w .head-length
-                ; head-small = w .head-small
-                ; tape-length = omega (arith, length-append t ws, w .tape-length)
-                ; tape-small = small-append t ws (w .tape-small) s
-                ; bounded = bound
-                ; rising = w .rising
-                ; within = omega (arith, w .within)
-                ; room = room
-                }
-        ; pages = td .pages
-        ; head = td .head
-        ; seen = seen-then
-        ; head-waits = elsewhere-append 0 (d .queue) new (td .head-waits) (place-not-head n laid (w .ring))
-        ; waits =
-            λ v lo hi.
-                elsewhere-append (place n v) (d .queue) new (td .waits v lo hi)
-                (place-apart n v laid (w .ring) (omega (arith, w .within)) (omega arith))
-        ; stills = λ _ e. absurd (omega (arith, w .within))
-        }
+    record {
+      window =
+          record {
+            ring = w .ring;
+            head-length = w .head-length;
+            head-small = w .head-small;
+            tape-length = omega (arith, length-append t ws, w .tape-length);
+            tape-small = small-append t ws (w .tape-small) s;
+            bounded = bound;
+            rising = w .rising;
+            within = omega (arith, w .within);
+            room = room;
+          };
+      pages = td .pages;
+      head = td .head;
+      seen = seen-then;
+      head-waits = elsewhere-append 0 (d .queue) new (td .head-waits) (place-not-head n laid (w .ring));
+      waits =
+          λ v lo hi.
+          elsewhere-append (place n v) (d .queue) new (td .waits v lo hi)
+          (place-apart n v laid (w .ring) (omega (arith, w .within)) (omega arith));
+      stills = λ _ e. absurd (omega (arith, w .within));
+    }
   where
     w : Window n h t laid
     w = td .window
+
     new : Write
     new = record { at = place n laid; page = bytes-of ws }
+
     reads : (v : ℕ) → read-page (queued d (place n laid) (bytes-of ws)) v ≡ page-at (set-page (all-written (d .pages) (d .queue)) (place n laid) (bytes-of ws)) v
     reads v = ap (λ ps. page-at ps v) (written-append (d .queue) (d .pages) new)
+
     seen-then : (v : ℕ) → first-page h ≤ v → v < suc laid → read-page (queued d (place n laid) (bytes-of ws)) (place n v) ≡ bytes-of (page-of (t ++ ws) v)
     seen-then v lo hi = go (cases-lt v laid)
       where
@@ -160,66 +163,67 @@ tied-lay n q d h t laid ws td room bound l s =
 pub tied-flush : (n : ℕ) (q : Bool) (d : Device) (h t : List ℕ) (laid : ℕ) → Tied n q d h t laid → Tied n q (flushed d) h t laid
 unfolding all-written elsewhere
 tied-flush n q d h t laid td =
-    record
-        { window = td .window
-        ; pages = length-all-written (d .queue) (d .pages) ∙ td .pages
-        ; head = read-elsewhere (d .queue) (d .pages) 0 (td .head-waits) ∙ td .head
-        ; seen = td .seen
-        ; head-waits = refl
-        ; waits = λ v lo hi. refl
-        ; stills = λ _ _. refl
-        }
+    record {
+      window = td .window;
+      pages = length-all-written (d .queue) (d .pages) ∙ td .pages;
+      head = read-elsewhere (d .queue) (d .pages) 0 (td .head-waits) ∙ td .head;
+      seen = td .seen;
+      head-waits = refl;
+      waits = λ v lo hi. refl;
+      stills = λ _ _. refl;
+    }
 
 -- after a stop the head is there with its window
 pub tied-stopped : (n : ℕ) (q : Bool) (d : Device) (h t : List ℕ) (laid : ℕ) (cs : List ℕ) → Tied n q d h t laid →
     Tied n true (stopped d cs) h (published h t) (last-page h)
 unfolding all-written elsewhere
 tied-stopped n q d h t laid cs td =
-    record
-        { window =
-            record
-                { ring = w .ring
-                ; head-length = w .head-length
-                ; head-small = w .head-small
-                ; tape-length = length-take-le (64 * last-page h) t inside
-                ; tape-small = small-take (64 * last-page h) t (w .tape-small)
-                ; bounded = omega (arith, w .within, w .bounded)
-                ; rising = w .rising
-                ; within = omega arith
-                ; room = omega (arith, w .within, w .room)
-                }
-        ; pages = length-left (d .queue) (d .pages) cs ∙ td .pages
-        ; head = left-elsewhere (d .queue) (d .pages) cs 0 (td .head-waits) ∙ td .head
-        ; seen =
-            λ v lo hi.
-                left-elsewhere (d .queue) (d .pages) cs (place n v) (td .waits v lo hi)
-                ∙ sym (read-elsewhere (d .queue) (d .pages) (place n v) (td .waits v lo hi)) ∙ td .seen v lo (omega (arith, w .within))
-                ∙ ap bytes-of (sym (page-of-take t (last-page h) v hi inside))
-        ; head-waits = refl
-        ; waits = λ v lo hi. refl
-        ; stills = λ _ _. refl
-        }
+    record {
+      window =
+          record {
+            ring = w .ring;
+            head-length = w .head-length;
+            head-small = w .head-small;
+            tape-length = length-take-le (64 * last-page h) t inside;
+            tape-small = small-take (64 * last-page h) t (w .tape-small);
+            bounded = omega (arith, w .within, w .bounded);
+            rising = w .rising;
+            within = omega arith;
+            room = omega (arith, w .within, w .room);
+          };
+      pages = length-left (d .queue) (d .pages) cs ∙ td .pages;
+      head = left-elsewhere (d .queue) (d .pages) cs 0 (td .head-waits) ∙ td .head;
+      seen =
+          λ v lo hi.
+          left-elsewhere (d .queue) (d .pages) cs (place n v) (td .waits v lo hi)
+          ∙ sym (read-elsewhere (d .queue) (d .pages) (place n v) (td .waits v lo hi)) ∙ td .seen v lo (omega (arith, w .within))
+          ∙ ap bytes-of (sym (page-of-take t (last-page h) v hi inside));
+      head-waits = refl;
+      waits = λ v lo hi. refl;
+      stills = λ _ _. refl;
+    }
   where
     w : Window n h t laid
     w = td .window
+
     inside : 64 * last-page h ≤ length t
     inside = omega (arith, w .within, w .tape-length)
 
 -- what was laid behind the window is forgotten
 pub tied-again : (n : ℕ) (q : Bool) (d : Device) (h t : List ℕ) (laid : ℕ) → Tied n q d h t laid → Tied n false d h (published h t) (last-page h)
 tied-again n q d h t laid td =
-    record
-        { window = tied-stopped n q d h t laid [] td .window
-        ; pages = td .pages
-        ; head = td .head
-        ; seen =
-            λ v lo hi.
-                td .seen v lo (omega (arith, td .window .within))
-                ∙ ap bytes-of (sym (page-of-take t (last-page h) v hi (omega (arith, td .window .within, td .window .tape-length))))
-        ; head-waits = td .head-waits
-        ; waits = td .waits
-        ; stills = λ e _. absurd (false≢true e)
-        }
+    record {
+      window = tied-stopped n q d h t laid [] td .window;
+      pages = td .pages;
+      head = td .head;
+      seen =
+          λ v lo hi.
+          td .seen v lo (omega (arith, td .window .within))
+          ∙ ap bytes-of (sym (page-of-take t (last-page h) v hi (omega (arith, td .window .within, td .window .tape-length))));
+      head-waits = td .head-waits;
+      waits = td .waits;
+      stills = λ e _. absurd (false≢true e);
+    }
 
 -- a new head on flushed pages
 pub tied-head : (n : ℕ) (q : Bool) (ps : List Page) (h t : List ℕ) (laid : ℕ) (new : List ℕ) (page : Page) →
@@ -227,27 +231,27 @@ pub tied-head : (n : ℕ) (q : Bool) (ps : List Page) (h t : List ℕ) (laid : �
     length new ≡ 32 → small new ≡ true → page ≡ head-page new → Tied n q (record { pages = set-page ps 0 page; queue = [] }) new t laid
 unfolding all-written elsewhere
 tied-head n q ps h t laid new page td up rise inside l s e =
-    record
-        { window =
-            record
-                { ring = w .ring
-                ; head-length = l
-                ; head-small = s
-                ; tape-length = w .tape-length
-                ; tape-small = w .tape-small
-                ; bounded = w .bounded
-                ; rising = rise
-                ; within = inside
-                ; room = omega (arith, w .room)
-                }
-        ; pages = length-set-page ps 0 page ∙ td .pages
-        ; head = page-at-set-same ps 0 page (omega (arith, td .pages)) ∙ e
-        ; seen =
-            λ v lo hi. page-at-set-other ps 0 (place n v) page (λ z. place-not-head n v (w .ring) (sym z)) ∙ td .seen v (omega arith) hi
-        ; head-waits = refl
-        ; waits = λ v lo hi. refl
-        ; stills = λ _ _. refl
-        }
+    record {
+      window =
+          record {
+            ring = w .ring;
+            head-length = l;
+            head-small = s;
+            tape-length = w .tape-length;
+            tape-small = w .tape-small;
+            bounded = w .bounded;
+            rising = rise;
+            within = inside;
+            room = omega (arith, w .room);
+          };
+      pages = length-set-page ps 0 page ∙ td .pages;
+      head = page-at-set-same ps 0 page (omega (arith, td .pages)) ∙ e;
+      seen =
+          λ v lo hi. page-at-set-other ps 0 (place n v) page (λ z. place-not-head n v (w .ring) (sym z)) ∙ td .seen v (omega arith) hi;
+      head-waits = refl;
+      waits = λ v lo hi. refl;
+      stills = λ _ _. refl;
+    }
   where
     w : Window n h t laid
     w = td .window
@@ -272,12 +276,13 @@ tied-heading n q ps h t laid new (c ∷ cs) td up rise inside l s =
     pick-both Either (eqb c 1) (set-page ps 0 (head-page new)) (pick (eqb c 2) (set-page ps 0 (half (head-page new) (page-at ps 0))) ps)
     (λ _. inr (there (head-page new) refl))
     (λ _. pick-both Either (eqb c 2) (set-page ps 0 (half (head-page new) (page-at ps 0))) ps
-        (λ _. inr (there (half (head-page new) (page-at ps 0)) (ap (half (head-page new)) (td .head) ∙ half-head new h l (td .window .head-length))))
-        (λ _. inl (tied-stopped n q (record { pages = ps; queue = [] }) h t laid [] td)))
+    (λ _. inr (there (half (head-page new) (page-at ps 0)) (ap (half (head-page new)) (td .head) ∙ half-head new h l (td .window .head-length))))
+    (λ _. inl (tied-stopped n q (record { pages = ps; queue = [] }) h t laid [] td)))
   where
     Either : List Page → Type 0
     Either x =
         Tied n true (record { pages = x; queue = [] }) h (published h t) (last-page h) ⊎ Tied n true (record { pages = x; queue = [] }) new (published new t) (last-page new)
+
     there : (page : Page) → page ≡ head-page new → Tied n true (record { pages = set-page ps 0 page; queue = [] }) new (published new t) (last-page new)
     there page e =
         tied-stopped n q (record { pages = set-page ps 0 page; queue = [] }) new t laid [] (tied-head n q ps h t laid new page td up rise inside l s e)

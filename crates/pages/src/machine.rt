@@ -92,9 +92,17 @@ fn serving_of(request: Request) -> Serving
 {
     match request {
         Request::Recall => Serving::Recalling,
-        Request::Look { at, words } => Serving::Looking { at, left: words.min(41_088), got: 0 },
+        Request::Look { at, words } => Serving::Looking {
+            at,
+            left: words.min(41_088),
+            got: 0,
+        },
         Request::Object { at, limit } => Serving::Opening { at, limit },
-        Request::Lay { page, pages } => Serving::Laying { page, left: pages.saturating_sub(1).min(641), from: 64 },
+        Request::Lay { page, pages } => Serving::Laying {
+            page,
+            left: pages.saturating_sub(1).min(641),
+            from: 64,
+        },
         Request::Publish => Serving::Flushing,
         Request::Show { bytes: _ } => Serving::Showing,
         Request::Finish { reply: _ } => Serving::Idle,

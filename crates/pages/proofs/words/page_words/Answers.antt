@@ -27,10 +27,10 @@ loop-i-again c =
     let h : i < length (c .loop-i .words) = omega arith in (
       length-set (c .loop-i .words) i (c .number .result) ∙ c .loop-i .inv .0,
       take-more-set (c .loop-i .words) i (c .number .result) h
-      ∙ ap (λ xs. xs ++ c .number .result ∷ []) (c .loop-i .inv .1)
-      ∙ ap (λ x. words i p ++ x ∷ [])
-        (c .number .ensures ∙ ap (λ n. from-bytes 0 (take 8 (take n (drop (8 * i) p)))) k ∙ ap (from-bytes 0) (take-take 8 8 (drop (8 * i) p) (omega arith)))
-      ∙ sym (words-more i p)
+          ∙ ap (λ xs. xs ++ c .number .result ∷ []) (c .loop-i .inv .1)
+          ∙ ap (λ x. words i p ++ x ∷ [])
+          (c .number .ensures ∙ ap (λ n. from-bytes 0 (take 8 (take n (drop (8 * i) p)))) k ∙ ap (from-bytes 0) (take-take 8 8 (drop (8 * i) p) (omega arith)))
+          ∙ sym (words-more i p),
     )
 
 pub returns : need.returns
