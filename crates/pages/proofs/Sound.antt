@@ -25,7 +25,7 @@ use Rattle.pages.specs.declared.machine.Serving.{Serving}
 use Rattle.pages.specs.declared.machine.Serving.the-variants.{Idle, Recalling, Looking, Opening, Laying, Flushing, Heading, Settling, Showing}
 use Rattle.pages.specs.declared.machine.Machine.{Machine}
 use Rattle.pages.proofs.ListLaws.{pick-both, pick-true, pick-false}
-use Rattle.pages.proofs.WordLaws.{small-take, small-drop, small-over, length-over, words-of-page, page-of-words, head-is-page, head-words}
+use Rattle.pages.proofs.WordLaws.{small-take, small-drop, small-over, length-over, words-of-page, page-of-words, head-is-page, head-words, head-of-front}
 use Rattle.pages.proofs.TapeLaws.{read-elsewhere, place-inside, tied-lay, tied-flush, tied-stopped, tied-head, tied-heading}
 use Rattle.pages.proofs.EngineLaws.{step-image}
 
@@ -69,11 +69,6 @@ word-of-page t at =
     let v : ℕ = 64 * (at / 64) in
     let e : v + at % 64 ≡ at = omega arith in
     getD-take 64 (drop v t) (at % 64) 0 (omega arith) ∙ getD-drop v t (at % 64) 0 ∙ ap (λ n. getD t n 0) e
-
--- a head's page has only the front of memory
-head-of-front : (m : List ℕ) → head-page m ≡ head-page (take 32 m)
-unfolding head-page
-head-of-front m = ap (λ (x : List ℕ). bytes-of x ++ zeros 256) (sym (take-take 32 32 m (omega arith)))
 
 module _ {K : Type 0} (f : Housed K) (law : Lawful f) (n : ℕ) (still : Bool) (ls : ℕ) (other : World) (Stop : List ℕ → List ℕ → Rows → Type 0)
     (End : K → List ℕ → List ℕ → List ℕ → ℕ → Rows → ℕ → Type 0) where

@@ -11,7 +11,7 @@ use lib.Seq.{take-append-add}
 use lib.Dec.{eqb, ltb}
 use lib.ListN.{length, getD, take, drop, length-append, length-take, length-drop, take-append-drop}
 use Rattle.std.proofs.shelf.Tests.{ltb-true, lt-ltb, eq-eqb, eqb-true, and-parts, and-from}
-use Rattle.std.proofs.shelf.Lists.{take-at, drop-at, drop-drop, take-all, drop-more, take-append-le, length-take-le}
+use Rattle.std.proofs.shelf.Lists.{take-at, drop-at, drop-drop, take-take, take-all, drop-more, take-append-le, length-take-le}
 use Rattle.pages.specs.Lists.{pick, every, flat, zeros}
 use Rattle.pages.specs.Bytes.{eight, in-bytes, from-bytes, all-bytes}
 use Rattle.pages.specs.Device.{Page, a-page}
@@ -234,3 +234,13 @@ put-more ws out was new i h e n =
     ap₂ (λ xs j. putMid (8 * i) j xs new) e k ∙ put-behind (8 * i) 8 front was new (length-front i ws (omega arith))
     ∙ ap₂ (λ xs j. (front ++ xs) ++ drop j was) (n ∙ sym (take-all 8 (eight (getD ws i 0)) (omega (arith, length-eight (getD ws i 0))))) s
     ∙ ap (λ xs. xs ++ drop (8 * (i + 1)) was) (sym (bytes-front ws i 8 h (omega arith)) ∙ ap (λ j. take j (bytes-of ws)) s ∙ bytes-whole ws (i + 1) (omega arith))
+
+-- a head's page has only the front of memory
+pub head-of-front : (m : List ℕ) → head-page m ≡ head-page (take 32 m)
+unfolding head-page
+head-of-front m = ap (λ (x : List ℕ). bytes-of x ++ zeros 256) (sym (take-take 32 32 m (omega arith)))
+
+pub length-head-page : (m : List ℕ) → 32 ≤ length m → length (head-page m) ≡ 512
+unfolding head-page
+length-head-page m h =
+    omega (arith, length-append (bytes-of (take 32 m)) (zeros 256), length-bytes-of (take 32 m), length-take-le 32 m h, length-zeros 256)

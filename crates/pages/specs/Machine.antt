@@ -2,7 +2,7 @@
 -- pages, counted from 0 and never wrapping, lie one after the other. Defined for every value of the registers and every event.
 -- Assumes nothing: these are definitions.
 use mathlib.Core.Path.{_≡_}
-use mathlib.Core.Bool.{Bool, true, false}
+use mathlib.Core.Bool.{Bool, true, false, _&&_}
 use mathlib.Core.List.{List, [], _∷_, _++_}
 use Prim.Native.Nat.{ℕ, zero, suc, _+_, _*_, _-_, _/_, _%_, min, max}
 use lib.Dec.{eqb, ltb, leb}
@@ -12,6 +12,7 @@ use Rattle.pages.specs.Words.{bytes-of, page-words, over}
 use Rattle.pages.specs.Run.{Event, on, said, page, next, heard, lost, Act, read, write, flush, shows, done, refused}
 use Rattle.pages.specs.Told.{Act-told}
 use Rattle.pages.specs.declared.told.Told.{Told}
+use Rattle.pages.specs.declared.told.Told.the-variants.{No}
 use Rattle.pages.specs.declared.machine.Request.{Request}
 use Rattle.pages.specs.declared.machine.Request.the-variants.{Recall, Look, Object, Lay, Publish, Show, Finish}
 use Rattle.pages.specs.declared.machine.Serving.{Serving}
@@ -119,7 +120,7 @@ looked at left got ws m =
 
 -- an object's first word has its length in the lower 32 bits
 abbrev pub wanted : ℕ → ℕ → ℕ
-wanted limit header = max 1 (min (min (header % 4294967296) limit) buffer-words)
+wanted limit header = max (min (min (header % 4294967296) limit) buffer-words) 1
 
 abbrev pub go-on : {K : Type 0} → Program K → ℕ → K → Looked → Moved K
 go-on p n k l =
@@ -164,3 +165,11 @@ served p r k m (page bytes) = page-came p (r .ring) k m (page-words bytes) (r .s
 served p r k m next = act-done p (r .ring) k m (r .serving)
 served p r k m (heard letter) = unexpected (r .ring) k m
 served p r k m lost = unexpected (r .ring) k m
+
+-- a step of the code: memory that is shorter than the buffer, or a lent row that has no room for a row of bytes, is left alone, and number 0 is told
+unfoldable pub Serve-says : {K : Type 0} → Bool → Program K → (r : Machine) → (k : K) → (m : List ℕ) → Event → (out : List ℕ) → Told → Machine → K → List ℕ → List ℕ → Type 0
+Serve-says true p r k m ev out told r₁ k₁ m₁ out₁ = Moves (served p r k m ev) r₁ k₁ m₁ told out out₁
+Serve-says false p r k m ev out told r₁ k₁ m₁ out₁ = (told ≡ No 0) × (r₁ ≡ r) × (k₁ ≡ k) × (m₁ ≡ m) × (out₁ ≡ out)
+
+abbrev pub serve-fits : List ℕ → List ℕ → Bool
+serve-fits m out = leb buffer-words (length m) && leb row-bytes (length out)

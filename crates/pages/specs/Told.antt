@@ -19,7 +19,7 @@ event-meant (Heard letter) = heard (now letter)
 event-meant Lost = lost
 
 -- an act, with the bytes of a page, a row or a letter at the front of the lent row, which is otherwise as it was
-unfoldable pub Act-told : Act → Told → (out out₁ : List ℕ) → Type 0
+abbrev pub Act-told : Act → Told → (out out₁ : List ℕ) → Type 0
 Act-told (read k) r out out₁ = (r ≡ Read k) × (out₁ ≡ out)
 Act-told (write k p) r out out₁ = (r ≡ Write k) × (out₁ ≡ p ++ drop (length p) out)
 Act-told flush r out out₁ = (r ≡ Flush) × (out₁ ≡ out)
