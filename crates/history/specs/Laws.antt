@@ -37,3 +37,30 @@ Latest-right =
 unfoldable pub Ids-tell : Type 0
 Ids-tell =
     (sum : Sum) (b : Book) (j k : ℕ) → clear sum b ≡ true → j < length b → k < length b → same (id sum b j) (id sum b k) ≡ true → j ≡ k
+
+-- What stands in the book stays as it is when more comes behind it: ids, what comes before a commit, its log.
+unfoldable pub Grows-behind : Type 0
+Grows-behind =
+    (sum : Sum) (b more : Book) → Grown b →
+    ((k : ℕ) → k < length b → (id sum (b ++ more) k ≡ id sum b k) × (log sum (b ++ more) (k ∷ []) ≡ log sum b (k ∷ [])))
+    × ((ks : List ℕ) → every (λ k. ltb k (length b)) ks ≡ true → back (b ++ more) ks ≡ back b ks)
+
+-- no number stands twice
+unfoldable pub each-once : List ℕ → Bool
+each-once [] = true
+each-once (k ∷ ks) = not (has ks k) && each-once ks
+
+-- What comes before some commits: these, with each its parents, and nothing but that; each once.
+unfoldable pub Back-right : Type 0
+Back-right =
+    (b : Book) (ks : List ℕ) → Grown b →
+    ((k : ℕ) → has ks k ≡ true → has (back b ks) k ≡ true)
+    × ((k j : ℕ) → has (back b ks) k ≡ true → has (nth b k .parents) j ≡ true → has (back b ks) j ≡ true)
+    × ((all : ℕ → Bool) → every all ks ≡ true → ((k : ℕ) → all k ≡ true → every all (nth b k .parents) ≡ true) → every all (back b ks) ≡ true)
+    × (each-once ks ≡ true → each-once (back b ks) ≡ true)
+
+-- A commit comes from itself; what it comes from is lower; and coming from goes on.
+unfoldable pub Under-right : Type 0
+Under-right =
+    (b : Book) (i j k : ℕ) → Grown b →
+    (under b k k ≡ true) × (under b j k ≡ true → j ≤ k) × (under b i j ≡ true → under b j k ≡ true → under b i k ≡ true)

@@ -1,4 +1,2 @@
-// A stand-in.
-pub fn version() -> u8 {
-    0
-}
+// The book of all commits: their ids, which come before which, and the order of a log.
+pub mod laws;

@@ -1,1 +1,6 @@
+pub mod TurnLaws
+pub mod WeightLaws
+pub mod FineLaws
+pub mod CarryLaws
+pub mod MorningLaws
 pub mod Simulation

@@ -5,11 +5,12 @@ use mathlib.Core.List.{List, [], _∷_, _++_}
 use Prim.Native.Nat.{ℕ, zero, suc, _+_, _*_, _-_, _/_, _%_, _≤_, _<_}
 use lib.Dec.{eqb, ltb, leb}
 use lib.ListN.{length, getD, take, drop}
-use Rattle.pages.specs.Lists.{or, every, same}
+use Rattle.pages.specs.Lists.{or, every, same, has}
 use Rattle.trees.specs.Tree.{found, alike, joined, both, rising-paths}
 use Rattle.history.specs.Book.{Book, Sum, nth}
+use Rattle.history.specs.Laws.{Grown, each-once}
 use Rattle.commands.specs.Command.{Command}
-use Rattle.house.specs.House.{Plain, Way, turn, clone-at, carry-all}
+use Rattle.house.specs.House.{Plain, Clone, Way, turn, clone-at, carry-all, all-refs, reached, weight}
 use Rattle.house.specs.Promise.{Never}
 
 -- Commits of a chain, carried one by one onto another commit that changed other paths, come to what joining gives, if the files of that commit and of each carried one, put together, are at most 4,096.
@@ -37,3 +38,20 @@ Apart =
     (sum : Sum) (w : Plain) (c d : ℕ) (a : Command) → (c ≡ d → Never) →
     (clone-at (turn sum w c (clone-at (w .clones) c) a .next .clones) d ≡ clone-at (w .clones) d)
     × ((more : Book) × (turn sum w c (clone-at (w .clones) c) a .next .book ≡ w .book ++ more))
+
+-- What a house can reach has each commit once.
+unfoldable pub Reach-once : Type 0
+Reach-once = (b : Book) (x : Clone) → each-once (reached b x) ≡ true
+
+-- What a house has to keep depends on what it can reach and has in work, and on how many names it has; not on their order.
+unfoldable pub Weight-by-reach : Type 0
+Weight-by-reach =
+    (b : Book) (x y : Clone) → ((k : ℕ) → has (reached b x) k ≡ has (reached b y) k) → x .work ≡ y .work → length (all-refs x) ≡ length (all-refs y) →
+    weight b x ≡ weight b y
+
+-- What a house can reach and has to keep stays as it is when the book grows.
+unfoldable pub Weight-stays : Type 0
+Weight-stays =
+    (b more : Book) (x : Clone) → Grown b →
+    every (λ r. ltb (r .to) (length b)) (all-refs x) ≡ true → every (λ j. ltb j (length b)) (x .joining) ≡ true →
+    (reached (b ++ more) x ≡ reached b x) × (weight (b ++ more) x ≡ weight b x)

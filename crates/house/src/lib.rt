@@ -1,4 +1,2 @@
-// A stand-in.
-pub fn version() -> u8 {
-    0
-}
+// The plain houses and what they promise.
+pub mod laws;

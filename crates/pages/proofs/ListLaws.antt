@@ -10,6 +10,7 @@ use lib.ListN.{length}
 use Rattle.std.specs.Orderings.{Decides}
 use Rattle.std.proofs.shelf.Tests.{true≢false, false≢true, eqb-true, eqb-false, eq-eqb, ne-eqb, and-parts, and-from, not-true, not-from-false, not-from-true, ltb-true, lt-ltb, cases-order}
 use Rattle.std.proofs.shelf.Ways.{decides-eqb, tells}
+use Rattle.pages.specs.Laws.{Rows-ordered}
 use Rattle.pages.specs.Lists.{pick, or, every, any, each, those, flat, same, earlier, has, none-of, first-of, first-or, distinct, added-up, zeros, so-many}
 
 -- PICK
@@ -181,6 +182,10 @@ added-up-alike f g (x ∷ xs) h = λ i. h x (inl refl) i + added-up-alike f g xs
 pub those-all : {A : Type 0} (p : A → Bool) (xs : List A) → ((x : A) → In x xs → p x ≡ true) → those p xs ≡ xs
 those-all p [] h = refl
 those-all p (x ∷ xs) h = pick-true (p x) (x ∷ those p xs) (those p xs) (h x (inl refl)) ∙ ap (λ l. x ∷ l) (those-all p xs (λ y k. h y (inr k)))
+
+pub those-none : {A : Type 0} (p : A → Bool) (xs : List A) → ((x : A) → In x xs → p x ≡ false) → those p xs ≡ []
+those-none p [] h = refl
+those-none p (x ∷ xs) h = pick-false (p x) (x ∷ those p xs) (those p xs) (h x (inl refl)) ∙ those-none p xs (λ y k. h y (inr k))
 
 -- NO REPETITION
 
@@ -398,3 +403,49 @@ those-append p (x ∷ xs) ys = go (p x) (those-append p xs ys)
 pub each-append : {A B : Type 0} (f : A → B) (xs ys : List A) → each f (xs ++ ys) ≡ each f xs ++ each f ys
 each-append f [] ys = refl
 each-append f (x ∷ xs) ys = ap (λ l. f x ∷ l) (each-append f xs ys)
+
+-- EVERY AND ONCE THROUGH THOSE, EACH AND ++
+
+pub every-those : {A : Type 0} (q p : A → Bool) (xs : List A) → every q xs ≡ true → every q (those p xs) ≡ true
+every-those q p xs h = every-from q (those p xs) (λ x i. every-in q xs h x (those-in p xs x i .0))
+
+pub every-each : {A B : Type 0} (q : B → Bool) (f : A → B) (xs : List A) → every (λ x. q (f x)) xs ≡ true → every q (each f xs) ≡ true
+every-each q f [] h = refl
+every-each q f (x ∷ xs) h = and-from _ _ (and-parts (q (f x)) _ h .0) (every-each q f xs (and-parts (q (f x)) _ h .1))
+
+pub once-each-those : {A B : Type 0} (f : A → B) (p : A → Bool) (xs : List A) → Once (each f xs) → Once (each f (those p xs))
+once-each-those f p [] o = tt
+once-each-those f p (x ∷ xs) o =
+    pick-both (λ l. Once (each f l)) (p x) (x ∷ those p xs) (those p xs)
+    (λ _. (
+      λ i. let r : (y : _) × In y (those p xs) × (f y ≡ f x) = each-in f (those p xs) (f x) i in
+          o .0 (subst (λ z. In z (each f xs)) (r .2) (in-each f xs (r .0) (those-in p xs (r .0) (r .1) .0))),
+      once-each-those f p xs (o .1),
+    ))
+    (λ _. once-each-those f p xs (o .1))
+
+pub once-append : {A : Type 0} (xs ys : List A) → Once xs → Once ys → ((x : A) → In x xs → In x ys → ⊥) → Once (xs ++ ys)
+once-append [] ys o q n = q
+once-append (x ∷ xs) ys o q n =
+    (λ i. ⊎-elim (λ l. o .0 l) (λ r. n x (inl refl) r) (in-append x xs ys i), once-append xs ys (o .1) q (λ y i k. n y (inr i) k))
+
+pub once-append-parts : {A : Type 0} (xs ys : List A) → Once (xs ++ ys) → Once xs × Once ys × ((x : A) → In x xs → In x ys → ⊥)
+once-append-parts [] ys o = (tt, o, λ x i k. i)
+once-append-parts (x ∷ xs) ys o =
+    let r : Once xs × Once ys × ((z : _) → In z xs → In z ys → ⊥) = once-append-parts xs ys (o .1) in (
+      (λ i. o .0 (in-left x xs ys i), r .0),
+      r .1,
+      λ z. elim [ inl e ↦ λ k. o .0 (in-right x xs ys (subst (λ w. In w ys) (sym e) k)) | inr i ↦ λ k. r .2 z i k ],
+    )
+
+pub or-parts : (s t : Bool) → or s t ≡ false → (s ≡ false) × (t ≡ false)
+or-parts true t e = absurd (true≢false e)
+or-parts false t e = (refl, e)
+
+pub first-or-every : (p : ℕ → Bool) (d : ℕ) (ks : List ℕ) → none-of ks ≡ false → every p ks ≡ true → p (first-or d ks) ≡ true
+first-or-every p d [] n h = absurd (true≢false n)
+first-or-every p d (k ∷ ks) n h = and-parts (p k) (every p ks) h .0
+
+pub rows-ordered : Rows-ordered
+unfolding Rows-ordered
+rows-ordered xs ys zs = (same-true xs ys, same-refl xs, earlier-refl xs, earlier-trans xs ys zs, earlier-total xs ys)

@@ -4,3 +4,8 @@ pub mod Device
 pub mod Run
 pub mod Crash
 pub mod Laws
+pub mod Words
+pub mod Told
+pub mod Machine
+pub mod Engine
+pub mod Tape

@@ -1,3 +1,6 @@
 // Pages that keep what is written through any stop.
 pub mod bytes;
 pub mod laws;
+pub mod machine;
+pub mod told;
+pub mod words;

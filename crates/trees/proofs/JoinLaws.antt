@@ -8,10 +8,10 @@ use native.Mathlib.Omega.{arith}
 use lib.ListN.{length, length-append}
 use Rattle.std.proofs.shelf.Tests.{true≢false, false≢true, and-parts, and-from, and-left, and-right, not-true, not-false, not-from-true, not-from-false}
 use Rattle.pages.specs.Lists.{pick, every, each, those, same, earlier, none-of}
-use Rattle.pages.proofs.ListLaws.{pick-both, pick-true, pick-false, false-unless, same-test, In, in-left, in-right, in-append, same-true, same-refl, same-from, same-false, same-sym, those-append, those-in, in-those}
+use Rattle.pages.proofs.ListLaws.{pick-both, pick-true, pick-false, false-unless, same-test, In, in-left, in-right, in-append, same-true, same-refl, same-from, same-false, same-sym, those-append, those-in, in-those, Once, once-those, length-those, length-each}
 use Rattle.trees.specs.Tree.{File, Tree, found, alike, put, without, set, paths, both, rising-paths, changed, clash, joined-at, joined-over, joined, clashes}
-use Rattle.trees.specs.Laws.{Joined-right, One-side}
-use Rattle.trees.proofs.TreeLaws.{alike-true, alike-refl, alike-from, alike-sym, found-one, found-in, found-out, in-found, found-put-same, found-put-other, found-without-other, found-set-other, set-rising, paths-put, paths-without, in-both-left, in-both-right, both-rising, both-in}
+use Rattle.trees.specs.Laws.{Joined-right, One-side, Files-found, One-tree}
+use Rattle.trees.proofs.TreeLaws.{found-without-same, put-rising, without-rising, rising-alike, alike-true, alike-refl, alike-from, alike-sym, found-one, found-in, found-out, in-found, found-put-same, found-put-other, found-without-other, found-set-other, set-rising, paths-put, paths-without, in-both-left, in-both-right, both-rising, both-in, set-every, found-every, once-paths, length-both}
 
 -- how often a path stands in a list
 abbrev pub times : List ℕ → List (List ℕ) → ℕ
@@ -241,3 +241,49 @@ pub one-side : One-side
 unfolding One-side
 one-side bases ours theirs p h =
     (one-side-at bases ours theirs p h .0, joined-found bases ours theirs p ∙ one-side-at bases ours theirs p h .1)
+
+-- what holds of every file of both holds of every file joined
+pub over-every : (q : File → Bool) (bases : List Tree) (ours theirs : Tree) (ps : List (List ℕ)) (t : Tree) → every q ours ≡ true → every q theirs ≡ true →
+    every q t ≡ true → every q (joined-over bases ours theirs ps t) ≡ true
+unfolding joined-over
+over-every q bases ours theirs [] t a b h = h
+over-every q bases ours theirs (p ∷ ps) t a b h =
+    over-every q bases ours theirs ps (set p (joined-at bases ours theirs p) t) a b
+    (set-every q p (joined-at bases ours theirs p) t
+    (joined-at-either (λ v. every (λ c. q (record { path = p; bytes = c })) v ≡ true) bases ours theirs p (found-every q ours p a) (found-every q theirs p b)) h)
+
+pub joined-every : (q : File → Bool) (bases : List Tree) (ours theirs : Tree) → every q ours ≡ true → every q theirs ≡ true → every q (joined bases ours theirs) ≡ true
+joined-every q bases ours theirs a b = over-every q bases ours theirs (paths theirs ++ paths ours) ours a b a
+
+-- CLASHES
+
+pub clashes-in : (bases : List Tree) (ours theirs : Tree) (p : List ℕ) → In p (clashes bases ours theirs) →
+    (In p (paths ours) ⊎ In p (paths theirs)) × (clash bases ours theirs p ≡ true)
+clashes-in bases ours theirs p i =
+    let r : In p (paths (both ours theirs)) × (clash bases ours theirs p ≡ true) = those-in (clash bases ours theirs) (paths (both ours theirs)) p i in
+    (both-in theirs ours p (r .0), r .1)
+
+pub in-clashes : (bases : List Tree) (ours theirs : Tree) (p : List ℕ) → (In p (paths ours) ⊎ In p (paths theirs)) → clash bases ours theirs p ≡ true →
+    In p (clashes bases ours theirs)
+in-clashes bases ours theirs p i c =
+    in-those (clash bases ours theirs) (paths (both ours theirs)) p (⊎-elim (λ l. in-both-left theirs ours p l) (λ r. in-both-right theirs ours p r) i) c
+
+pub once-clashes : (bases : List Tree) (ours theirs : Tree) → rising-paths ours ≡ true → Once (clashes bases ours theirs)
+once-clashes bases ours theirs h = once-those (clash bases ours theirs) (paths (both ours theirs)) (once-paths (both ours theirs) (both-rising theirs ours h))
+
+pub clashes-few : (bases : List Tree) (ours theirs : Tree) → length (clashes bases ours theirs) ≤ length ours + length theirs
+clashes-few bases ours theirs =
+    let a : length (clashes bases ours theirs) ≤ length (paths (both ours theirs)) = length-those (clash bases ours theirs) (paths (both ours theirs)) in
+    let b : length (paths (both ours theirs)) ≡ length (both ours theirs) = length-each (λ f. f .path) (both ours theirs) in
+    let c : length (both ours theirs) ≤ length ours + length theirs = length-both theirs ours in
+    omega arith
+
+pub files-found : Files-found
+unfolding Files-found
+files-found t p b q h n =
+    let d : p ≡ q → ⊥ = same-false p q n in
+    (found-put-same p b t, found-put-other p b t q d, found-without-same p t h, found-without-other p t q d, put-rising p b t h, without-rising p t h)
+
+pub one-tree : One-tree
+unfolding One-tree
+one-tree = (rising-alike, joined-rising)

@@ -318,3 +318,50 @@ rising-alike (f ∷ fs) (g ∷ gs) h k e =
     behind p first false s =
         let off : g .path ≡ p → ⊥ = same-false (g .path) p s in
         sym (found-further f fs p (λ c. off (sym first ∙ c))) ∙ (e p ∙ found-further g gs p off)
+
+-- WHAT HOLDS OF EVERY FILE
+
+pub put-every : (q : File → Bool) (p b : List ℕ) (t : Tree) → q (record { path = p; bytes = b }) ≡ true → every q t ≡ true → every q (put p b t) ≡ true
+unfolding put
+put-every q p b [] h k = and-from _ _ h k
+put-every q p b (f ∷ fs) h k =
+    let a : (q f ≡ true) × (every q fs ≡ true) = and-parts (q f) (every q fs) k in
+    pick-both (λ u. every q u ≡ true) (same p (f .path)) _ _ (λ _. and-from _ _ h (a .1))
+    (λ _. pick-both (λ u. every q u ≡ true) (earlier p (f .path)) _ _ (λ _. and-from _ _ h k) (λ _. and-from _ _ (a .0) (put-every q p b fs h (a .1))))
+
+pub without-every : (q : File → Bool) (p : List ℕ) (t : Tree) → every q t ≡ true → every q (without p t) ≡ true
+unfolding without
+without-every q p [] k = k
+without-every q p (f ∷ fs) k =
+    let a : (q f ≡ true) × (every q fs ≡ true) = and-parts (q f) (every q fs) k in
+    pick-both (λ u. every q u ≡ true) (same p (f .path)) _ _ (λ _. a .1) (λ _. and-from _ _ (a .0) (without-every q p fs (a .1)))
+
+pub set-every : (q : File → Bool) (p : List ℕ) (bs : List (List ℕ)) (t : Tree) → every (λ b. q (record { path = p; bytes = b })) bs ≡ true → every q t ≡ true →
+    every q (set p bs t) ≡ true
+unfolding set
+set-every q p [] t h k = without-every q p t k
+set-every q p (b ∷ bs) t h k = put-every q p b t (and-parts _ _ h .0) k
+
+pub found-every : (q : File → Bool) (t : Tree) (p : List ℕ) → every q t ≡ true → every (λ b. q (record { path = p; bytes = b })) (found t p) ≡ true
+unfolding found
+found-every q [] p k = refl
+found-every q (f ∷ fs) p k =
+    let a : (q f ≡ true) × (every q fs ≡ true) = and-parts (q f) (every q fs) k in
+    pick-both (λ v. every (λ b. q (record { path = p; bytes = b })) v ≡ true) (same (f .path) p) _ _
+    (λ e. and-from _ _ (subst (λ r. q (record { path = r; bytes = f .bytes }) ≡ true) (same-true (f .path) p e) (a .0)) refl) (λ _. found-every q fs p (a .1))
+
+pub length-put : (p b : List ℕ) (t : Tree) → length (put p b t) ≤ suc (length t)
+unfolding put
+length-put p b [] = omega arith
+length-put p b (f ∷ fs) =
+    let h : length (put p b fs) ≤ suc (length fs) = length-put p b fs in
+    pick-both (λ (u : Tree). length u ≤ suc (suc (length fs))) (same p (f .path)) _ _ (λ _. omega arith)
+    (λ _. pick-both (λ (u : Tree). length u ≤ suc (suc (length fs))) (earlier p (f .path)) _ _ (λ _. omega arith) (λ _. omega arith))
+
+pub length-both : (u t : Tree) → length (both t u) ≤ length t + length u
+unfolding both
+length-both [] t = omega arith
+length-both (f ∷ fs) t =
+    let h : length (both (put (f .path) (f .bytes) t) fs) ≤ length (put (f .path) (f .bytes) t) + length fs = length-both fs (put (f .path) (f .bytes) t) in
+    let k : length (put (f .path) (f .bytes) t) ≤ suc (length t) = length-put (f .path) (f .bytes) t in
+    omega arith

@@ -1,0 +1,4 @@
+pub mod BookLaws
+pub mod BackLaws
+pub mod LogLaws
+pub mod GrowLaws
