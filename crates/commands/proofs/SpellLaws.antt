@@ -1,21 +1,20 @@
 -- A command's parts spell it, fit where it does, and are written one behind the other.
 use mathlib.Core.Path.{_≡_, refl, sym, ap, ap₂, _∙_}
-use mathlib.Core.Bool.{Bool, true, false, _&&_, cond, and-true}
+use mathlib.Core.Bool.{Bool, true, false, _&&_, and-true}
 use mathlib.Core.List.{List, [], _∷_, _++_, append-nil}
 use Prim.Native.Nat.{ℕ, _+_, _≤_, _<_}
 use native.Mathlib.Nat.{zero-add}
 use native.Mathlib.Omega.{arith}
 use denote.Ref.{RefT, now}
-use lib.Dec.{eqb, ltb, leb}
+use lib.Dec.{ltb, leb}
 use lib.ListN.{length, take, drop, length-append}
 use Rattle.std.specs.shelf.Lists.{paste}
-use Rattle.std.specs.declared.option.Option.{Option}
 use Rattle.std.specs.declared.option.Option.the-variants.{Some, None}
 use Rattle.std.proofs.shelf.Edits.{paste-paste, paste-all}
 use Rattle.std.proofs.shelf.Lists.{take-at}
 use Rattle.std.proofs.shelf.Tests.{and-parts, and-from, and-left, and-right, cond-true, cond-false, le-leb, lt-leb}
 use Rattle.std.proofs.shelf.Ways.{tells}
-use Rattle.pages.specs.Bytes.{eight, all-bytes}
+use Rattle.pages.specs.Bytes.{all-bytes}
 use Rattle.pages.proofs.BytesLaws.{all-bytes-in-bytes}
 use Rattle.commands.specs.Command.{spelled, fits}
 use Rattle.commands.specs.Laws.{Read-back}
@@ -26,7 +25,7 @@ use Rattle.commands.specs.declared.command.Command.{Command}
 use Rattle.commands.specs.declared.command.Command.the-variants.{WriteFile, DropFile, Commit, Branch, GoTo, History, ShowFile, Status, ReadFile, Join, Settle, Leave, MoveOnto, Carry, Forget, Tag, Who, Sweep, Fetch}
 use Rattle.commands.specs.declared.parts.Parts.{Parts}
 use Rattle.commands.specs.declared.parts.Piece.{Piece}
-use Rattle.commands.specs.declared.parts.Piece.the-variants.{Nothing, Number, Row}
+use Rattle.commands.specs.declared.parts.Piece.the-variants.{Number, Row}
 use Rattle.commands.proofs.ParseLaws.{all-bytes-row, parsed-back}
 
 -- ---- the parts spell the command

@@ -1,10 +1,9 @@
 -- What is promised of spelling and parsing, as statements whose proofs stand on contracts of this crate.
 use mathlib.Core.Path.{_≡_}
-use mathlib.Core.Bool.{Bool, true, false, _&&_, not}
-use mathlib.Core.List.{List, [], _∷_, _++_}
-use Prim.Native.Nat.{ℕ, zero, suc, _+_, _*_, _-_, _/_, _%_, _≤_, _<_}
-use lib.Dec.{eqb, ltb, leb}
-use lib.ListN.{length, getD, take, drop}
+use mathlib.Core.Bool.{true}
+use mathlib.Core.List.{List}
+use Prim.Native.Nat.{ℕ}
+use lib.ListN.{take}
 use Rattle.std.specs.declared.option.Option.the-variants.{Some}
 use Rattle.commands.specs.Command.{Command, spelled, fits}
 use Rattle.commands.specs.Parse.{Answers, parsed}

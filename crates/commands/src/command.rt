@@ -1,5 +1,5 @@
 // What can be asked of a house. Names, paths and texts are lent from where the command was read.
-#[derive(Clone, Copy, PartialEq, Eq)]
+#[derive(Clone, Copy)]
 pub enum Command<'a> {
     // a path, bytes
     WriteFile(&'a [u8], &'a [u8]),

@@ -1,9 +1,9 @@
 -- Laws of numbers in bytes: how many there are, that each is a byte, and that reading undoes writing, both ways.
 use mathlib.Core.Path.{_≡_, refl, sym, ap, ap₂, _∙_}
-use mathlib.Core.Bool.{Bool, true, false, _&&_, and-assoc}
+use mathlib.Core.Bool.{true, _&&_, and-assoc}
 use mathlib.Core.List.{List, [], _∷_, _++_, append-nil, append-assoc}
-use Prim.Native.Nat.{ℕ, zero, suc, _+_, _*_, _-_, _/_, _%_, _^_, _≤_, _<_}
-use native.Mathlib.Nat.{add-suc, suc-add, add-zero, zero-add, pow-suc, mod-lt}
+use Prim.Native.Nat.{ℕ, zero, suc, _+_, _*_, _/_, _%_, _^_, _≤_, _<_}
+use native.Mathlib.Nat.{add-suc, suc-add, add-zero, zero-add, pow-suc}
 use native.Mathlib.Omega.{arith}
 use lib.Dec.{ltb}
 use lib.ListN.{length, getD, take, drop, length-append, length-drop}
@@ -11,7 +11,6 @@ use mir.Syntax.{w8}
 use mir.Val.{Fits}
 use Rattle.std.proofs.shelf.Tests.{ltb-true, lt-ltb, and-parts, and-from}
 use Rattle.std.proofs.shelf.Lists.{take-at, drop-at, take-append-drop, length-take-le}
-use Rattle.pages.specs.Lists.{every}
 use Rattle.pages.specs.Bytes.{in-bytes, eight, with-length, from-bytes, all-bytes}
 
 pub length-in-bytes : (k n : ℕ) (bs : List ℕ) → length (in-bytes k n bs) ≡ k + length bs
@@ -36,13 +35,15 @@ all-bytes-in-bytes zero n bs = refl
 all-bytes-in-bytes (suc k) n bs =
     all-bytes-in-bytes k (n / 256) (n % 256 ∷ bs) ∙ ap (λ b. b && all-bytes bs) (lt-ltb (n % 256) 256 (omega arith))
 
+all-bytes-parts : (k : ℕ) (xs : List ℕ) → all-bytes xs ≡ true → (all-bytes (take k xs) ≡ true) × (all-bytes (drop k xs) ≡ true)
+all-bytes-parts k xs h =
+    and-parts (all-bytes (take k xs)) (all-bytes (drop k xs)) (sym (all-bytes-append (take k xs) (drop k xs)) ∙ ap all-bytes (take-append-drop k xs) ∙ h)
+
 pub all-bytes-take : (k : ℕ) (xs : List ℕ) → all-bytes xs ≡ true → all-bytes (take k xs) ≡ true
-all-bytes-take k xs h =
-    and-parts (all-bytes (take k xs)) (all-bytes (drop k xs)) (sym (all-bytes-append (take k xs) (drop k xs)) ∙ ap all-bytes (take-append-drop k xs) ∙ h) .0
+all-bytes-take k xs h = all-bytes-parts k xs h .0
 
 pub all-bytes-drop : (k : ℕ) (xs : List ℕ) → all-bytes xs ≡ true → all-bytes (drop k xs) ≡ true
-all-bytes-drop k xs h =
-    and-parts (all-bytes (take k xs)) (all-bytes (drop k xs)) (sym (all-bytes-append (take k xs) (drop k xs)) ∙ ap all-bytes (take-append-drop k xs) ∙ h) .1
+all-bytes-drop k xs h = all-bytes-parts k xs h .1
 
 -- reading what was written
 pub from-in-bytes : (k n : ℕ) (bs : List ℕ) → n < 256 ^ k → from-bytes 0 (in-bytes k n bs) ≡ from-bytes n bs

@@ -1,4 +1,4 @@
-use mathlib.Core.Path.{_≡_, sym, _∙_}
+use mathlib.Core.Path.{sym, _∙_}
 use native.Mathlib.Nat.{div-div-eq-div-mul}
 use Rattle.pages.specs.Bytes.{in-bytes}
 use Rattle.pages.proofs.bytes.in_eight.Needs as need
