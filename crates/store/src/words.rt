@@ -200,7 +200,7 @@ fn eight_rounds(s: Words, w: &mut [u32; 64], t: usize) -> Words
 }
 
 // The next hash value, from the one before and a block.
-pub fn compress(s: Words, block: &[u8]) -> Words
+pub(crate) fn compress(s: Words, block: &[u8]) -> Words
     requires { ⌜ length (now block) ≡ 64 ⌝ }
     ensures { λ r. ⌜ r ≡ compressed s (now (block .entry)) ⌝ }
 {
@@ -225,7 +225,7 @@ pub fn compress(s: Words, block: &[u8]) -> Words
 }
 
 // The hash value after all the whole blocks of the bytes.
-pub fn compress_all(s: Words, bytes: &[u8]) -> Words
+pub(crate) fn compress_all(s: Words, bytes: &[u8]) -> Words
     ensures { λ r. ⌜ r ≡ hashed (length (now (bytes .entry)) / 64) s (now (bytes .entry)) ⌝ }
 {
     let mut v = s;
