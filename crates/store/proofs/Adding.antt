@@ -1,17 +1,17 @@
 -- Bytes that come in pieces: the sum does not see where they were cut, and what the code's two ways to add a piece come to.
 use mathlib.Core.Path.{_≡_, refl, sym, ap, _∙_}
-use mathlib.Core.List.{List, [], _∷_, _++_, append-assoc, append-nil}
-use Prim.Native.Nat.{ℕ, zero, suc, _+_, _-_, _*_, _/_, _%_, _^_, _≤_, _<_}
+use mathlib.Core.List.{List, [], _++_, append-assoc, append-nil}
+use Prim.Native.Nat.{ℕ, _+_, _-_, _*_, _/_, _%_, _^_, _≤_, _<_}
 use native.Mathlib.Nat.{mul-add}
 use native.Mathlib.Omega.{arith}
 use lib.ListN.{length, take, drop, length-append, length-drop, length-take}
-use Rattle.std.proofs.shelf.Lists.{drop-drop, drop-append-le, take-append-drop, take-rest, take-all, drop-all, take-at, drop-at}
+use Rattle.std.proofs.shelf.Lists.{drop-drop, drop-append-le, take-append-drop, take-rest, take-all, drop-all}
 use Rattle.store.specs.declared.words.Words.{Words}
 use Rattle.store.specs.declared.hasher.Hasher.{Hasher}
 use Rattle.store.specs.Sha256.{compressed, hashed, block}
 use Rattle.store.specs.Rows.{over}
-use Rattle.store.specs.Running.{Progress, fresh, progress, taken, added}
-use Rattle.store.proofs.Hashing.{hashed-none, hashed-later, hashed-front}
+use Rattle.store.specs.Running.{Progress, fresh, progress, added}
+use Rattle.store.proofs.Hashing.{hashed-later, hashed-front}
 use Rattle.store.proofs.Written.{take-over}
 
 same-progress : {s t : Words} {v w : List ℕ} {m n : ℕ} → s ≡ t → v ≡ w → m ≡ n

@@ -1,15 +1,12 @@
 -- Numbers as bytes, and the 32 bytes of a hash value, word by word.
-use mathlib.Core.Path.{_≡_, refl, sym, ap, _∙_}
-use mathlib.Core.Bool.{Bool, true, _&&_}
+use mathlib.Core.Path.{_≡_, sym, ap, _∙_}
 use mathlib.Core.List.{List, [], _∷_, _++_, append-assoc, append-nil}
-use Prim.Native.Nat.{ℕ, zero, suc, _+_, _*_, _/_, _%_, _≤_, _<_}
+use Prim.Native.Nat.{ℕ, _+_, _*_, _/_, _%_, _≤_, _<_}
 use native.Mathlib.Omega.{arith}
-use borrow.Author.Tests.{lt-ltb}
-use lib.Dec.{ltb}
-use lib.ListN.{length, getD, take, length-append}
+use lib.ListN.{length, getD, take}
 use Rattle.std.proofs.shelf.Lists.{take-more, take-all}
-use Rattle.pages.specs.Lists.{flat, every}
-use Rattle.pages.specs.Bytes.{in-bytes, eight}
+use Rattle.pages.specs.Lists.{flat}
+use Rattle.pages.specs.Bytes.{in-bytes}
 use Rattle.store.specs.declared.words.Words.{Words}
 use Rattle.store.specs.Sha256.{digest}
 use Rattle.store.specs.Rows.{over}

@@ -1,18 +1,17 @@
 -- The padding: its length in bytes as the code writes it, the last blocks as the code fills them, and the sum of all that came.
 use mathlib.Core.Path.{_≡_, refl, sym, ap, _∙_}
 use mathlib.Core.List.{List, [], _∷_, _++_, append-assoc}
-use Prim.Native.Nat.{ℕ, zero, suc, _+_, _-_, _*_, _/_, _%_, _^_, _≤_, _<_}
-use native.Mathlib.Nat.{zero-add, suc-add}
+use Prim.Native.Nat.{ℕ, zero, suc, _+_, _-_, _*_, _/_, _%_, _^_, _≤_}
+use native.Mathlib.Nat.{zero-add}
 use native.Mathlib.Omega.{arith}
-use lib.ListN.{length, take, drop, set, replicate, length-append, length-drop, length-take, length-replicate}
+use lib.ListN.{length, take, drop, set, replicate, length-append, length-take, length-replicate}
 use Rattle.std.proofs.shelf.Lists.{drop-replicate, set-at, replicate-append-replicate, take-at}
-use Rattle.pages.specs.Lists.{flat}
 use Rattle.pages.specs.Bytes.{in-bytes, eight}
-use Rattle.store.specs.Sha256.{initial, padding, padded, hashed, digest, sha256}
+use Rattle.store.specs.Sha256.{initial, padding, digest, sha256}
 use Rattle.store.specs.Rows.{over}
-use Rattle.store.specs.Running.{Progress, fresh, added, finished}
+use Rattle.store.specs.Running.{fresh, added, finished}
 use Rattle.store.proofs.Written.{take-over}
-use Rattle.store.proofs.Adding.{hashed-cut, added-added}
+use Rattle.store.proofs.Adding.{hashed-cut}
 
 abbrev bytes-of : ℕ → List ℕ
 bytes-of n =

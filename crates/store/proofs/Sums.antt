@@ -1,16 +1,16 @@
 -- The laws of the sum.
 use mathlib.Core.Path.{_≡_, refl, sym, ap, _∙_}
-use mathlib.Core.Bool.{Bool, true, false, _&&_}
+use mathlib.Core.Bool.{Bool, true}
 use mathlib.Core.List.{List, [], _∷_, _++_, append-assoc, append-nil}
-use Prim.Native.Nat.{ℕ, zero, suc, _+_, _*_, _/_, _%_, _≤_, _<_}
+use Prim.Native.Nat.{ℕ, zero, suc, _*_, _/_, _%_}
 use native.Mathlib.Omega.{arith}
 use borrow.Author.Tests.{lt-ltb}
 use lib.Dec.{ltb}
-use lib.ListN.{length, replicate, length-append, length-replicate}
-use Rattle.pages.specs.Lists.{every, flat, those, any}
-use Rattle.pages.specs.Bytes.{in-bytes, eight}
+use lib.ListN.{length, length-append, length-replicate}
+use Rattle.pages.specs.Lists.{every, flat}
+use Rattle.pages.specs.Bytes.{in-bytes}
 use Rattle.store.specs.declared.words.Words.{Words}
-use Rattle.store.specs.Sha256.{K, initial, zero-bytes, padding, padded, digest, sha256}
+use Rattle.store.specs.Sha256.{K, initial, padding, digest, sha256}
 use Rattle.store.specs.Running.{Progress, fresh, added, finished}
 use Rattle.store.specs.Laws.{Gives-bytes, Cuts-unseen, all-added, Pads-least, Pads-whole, Constants-are-roots, numbers, primes, root-bits, roots}
 use Rattle.store.proofs.Adding.{added-added, added-none}

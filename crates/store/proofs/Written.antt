@@ -1,11 +1,11 @@
 -- A row with a part of it written over: its front, and what a write through a part of a slice leaves.
-use mathlib.Core.Path.{_≡_, refl, sym, ap, _∙_}
+use mathlib.Core.Path.{_≡_, ap}
 use mathlib.Core.List.{List, _++_, append-assoc}
 use Prim.Native.Nat.{ℕ, _+_, _-_, _≤_}
 use native.Mathlib.Omega.{arith}
 use lib.ListN.{length, take, drop, length-append, length-drop}
 use borrow.Rule.Slice.PartMut.{putMid}
-use Rattle.std.proofs.shelf.Lists.{drop-drop, take-at, length-take-le, length-take}
+use Rattle.std.proofs.shelf.Lists.{drop-drop, take-at, length-take}
 use Rattle.store.specs.Rows.{over}
 
 module _ (row : List ℕ) (at : ℕ) (bs : List ℕ) where

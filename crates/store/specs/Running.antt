@@ -1,6 +1,6 @@
 -- The sum of a message that comes in pieces. Assumes nothing: these are definitions.
 use mathlib.Core.Path.{_≡_}
-use mathlib.Core.List.{List, [], _∷_, _++_}
+use mathlib.Core.List.{List, [], _++_}
 use Prim.Native.Nat.{ℕ, _+_, _*_, _/_, _%_, _^_}
 use lib.ListN.{length, take, drop}
 use Rattle.store.specs.declared.words.Words.{Words}

@@ -1,5 +1,6 @@
 -- SHA-256 as FIPS 180-4 has it, under the standard's names, over bytes: a message is a list of bytes, a word a number below
--- 2 ^ 32. Assumes nothing: these are definitions.
+-- 2 ^ 32. (Of a list with larger numbers the definitions still say something; no code can hold one.)
+-- Assumes nothing: these are definitions.
 use mathlib.Core.List.{List, [], _∷_, _++_}
 use Prim.Native.Nat.{ℕ, zero, suc, _+_, _*_, _-_, _/_, _%_, _^_}
 use lib.Bits.{bitAnd, bitOr, bitXor}
@@ -77,11 +78,12 @@ block i m = take 64 (drop (64 * i) m)
 abbrev pub word : List ℕ → ℕ → ℕ
 word M t = getD M (4 * t) 0 * 2 ^ 24 + getD M (4 * t + 1) 0 * 2 ^ 16 + getD M (4 * t + 2) 0 * 2 ^ 8 + getD M (4 * t + 3) 0
 
--- word t of the message schedule, from the words W before it
+-- word t of the message schedule, from the words W before it: a word of the block, and then
+abbrev pub extension : List ℕ → ℕ → ℕ
+extension W t = σ₁ (getD W (t - 2) 0) ⊞ getD W (t - 7) 0 ⊞ σ₀ (getD W (t - 15) 0) ⊞ getD W (t - 16) 0
+
 unfoldable pub next-word : List ℕ → ℕ → List ℕ → ℕ
-next-word M t W =
-    pick (ltb t 16) (word M t)
-    (σ₁ (getD W (t - 2) 0) ⊞ getD W (t - 7) 0 ⊞ σ₀ (getD W (t - 15) 0) ⊞ getD W (t - 16) 0)
+next-word M t W = pick (ltb t 16) (word M t) (extension W t)
 
 -- the first t words of the message schedule of a block
 unfoldable pub schedule : ℕ → List ℕ → List ℕ

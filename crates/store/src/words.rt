@@ -1,8 +1,9 @@
 // The words of the sum: SHA-256's functions, schedule and rounds, as the standard has them.
 ghost use mathlib.Core.Path.{_≡_};
-ghost use Prim.Native.Nat.{_<_, _/_};
-ghost use lib.ListN.{length, getD};
-ghost use Rattle.store.specs.Sha256.{Ch, Maj, Σ₀, Σ₁, σ₀, σ₁, K, round, word, schedule, compressed, hashed};
+ghost use Prim.Native.Nat.{_+_, _<_, _≤_, _/_};
+ghost use lib.ListN.{length, getD, take};
+ghost use Rattle.store.specs.Mixing.{Goes-on};
+ghost use Rattle.store.specs.Sha256.{Ch, Maj, Σ₀, Σ₁, σ₀, σ₁, K, round, word, extension, schedule, compressed, hashed};
 
 // The eight words of a hash value, and the eight working variables.
 #[derive(Clone, Copy)]
@@ -162,32 +163,53 @@ fn word(block: &[u8], t: usize) -> u32
     ])
 }
 
-// The message schedule of a block.
-fn schedule(block: &[u8]) -> [u32; 64]
+// The first sixteen words of a block's message schedule; the others are not made yet.
+fn load(block: &[u8]) -> [u32; 64]
     requires { ⌜ length (now block) ≡ 64 ⌝ }
-    ensures { λ r. ⌜ r ≡ schedule 64 (now (block .entry)) ⌝ }
+    ensures { λ r. ⌜ take 16 r ≡ schedule 16 (now (block .entry)) ⌝ }
 {
     let mut w = [0u32; 64];
     for i in 0..16 {
         w[i] = word(block, i);
     }
-    for t in 16..64 {
-        w[t] = small_sigma1(w[t - 2])
-            .wrapping_add(w[t - 7])
-            .wrapping_add(small_sigma0(w[t - 15]))
-            .wrapping_add(w[t - 16]);
-    }
     w
 }
 
+// Word t of the schedule, from the words before it.
+fn extension(w: &[u32; 64], t: usize) -> u32
+    requires { ⌜ 16 ≤ t ⌝ ∗ ⌜ t < 64 ⌝ }
+    ensures { λ r. ⌜ r ≡ extension (now (w .entry)) t ⌝ }
+{
+    small_sigma1(w[t - 2])
+        .wrapping_add(w[t - 7])
+        .wrapping_add(small_sigma0(w[t - 15]))
+        .wrapping_add(w[t - 16])
+}
+
+// Eight rounds from round t on, each with a word more of the schedule: the two do not wait for each other.
+fn eight_rounds(s: Words, w: &mut [u32; 64], t: usize) -> Words
+    requires { ⌜ t + 8 ≤ 48 ⌝ }
+    ensures { λ r. ⌜ Goes-on 8 t s (now (w .entry)) r (now (w .exit)) ⌝ }
+{
+    let mut v = s;
+    for i in 0..8 {
+        w[t + i + 16] = extension(w, t + i + 16);
+        v = round(v, constant(t + i), w[t + i]);
+    }
+    v
+}
+
 // The next hash value, from the one before and a block.
-pub fn compress(s: Words, block: &[u8]) -> Words
+pub(crate) fn compress(s: Words, block: &[u8]) -> Words
     requires { ⌜ length (now block) ≡ 64 ⌝ }
     ensures { λ r. ⌜ r ≡ compressed s (now (block .entry)) ⌝ }
 {
-    let w = schedule(block);
+    let mut w = load(block);
     let mut v = s;
-    for t in 0..64 {
+    for b in 0..6 {
+        v = eight_rounds(v, &mut w, 8 * b);
+    }
+    for t in 48..64 {
         v = round(v, constant(t), w[t]);
     }
     Words {
@@ -203,7 +225,7 @@ pub fn compress(s: Words, block: &[u8]) -> Words
 }
 
 // The hash value after all the whole blocks of the bytes.
-pub fn compress_all(s: Words, bytes: &[u8]) -> Words
+pub(crate) fn compress_all(s: Words, bytes: &[u8]) -> Words
     ensures { λ r. ⌜ r ≡ hashed (length (now (bytes .entry)) / 64) s (now (bytes .entry)) ⌝ }
 {
     let mut v = s;

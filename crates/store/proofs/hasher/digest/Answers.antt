@@ -1,4 +1,4 @@
-use mathlib.Core.Path.{_≡_, refl, _∙_}
+use mathlib.Core.Path.{refl, _∙_}
 use native.Mathlib.Omega.{arith}
 use Rattle.store.proofs.Digests.{four-is, digest-more, digest-all, words-of}
 use Rattle.store.proofs.hasher.digest.Needs as need
