@@ -6,11 +6,11 @@ ghost use lib.ListN.{length, take, drop};
 ghost use Rattle.pages.specs.Engine.{engine-fits, housed, image, machine-cells, machine-in, memory-cells, serving-cells, serving-in, Step-told, stepped-in};
 ghost use Rattle.pages.specs.Machine.{program, row-bytes};
 ghost use Rattle.pages.specs.Told.{Act-told, event-meant};
-use crate::machine::serve;
 use crate::machine::Client;
 use crate::machine::Machine;
 use crate::machine::ROW;
 use crate::machine::Serving;
+use crate::machine::serve;
 use crate::told::Event;
 use crate::told::Told;
 
@@ -23,9 +23,17 @@ fn serving_in(code: u64, a: u64, b: u64, c: u64) -> Serving
 {
     match code {
         1 => Serving::Recalling,
-        2 => Serving::Looking { at: a, left: b, got: c },
+        2 => Serving::Looking {
+            at: a,
+            left: b,
+            got: c,
+        },
         3 => Serving::Opening { at: a, limit: b },
-        4 => Serving::Laying { page: a, left: b, from: c },
+        4 => Serving::Laying {
+            page: a,
+            left: b,
+            from: c,
+        },
         5 => Serving::Flushing,
         6 => Serving::Heading,
         7 => Serving::Settling,
@@ -55,7 +63,10 @@ fn load_machine(memory: &[u64]) -> Machine
     requires { ⌜ 8 ≤ length (now memory) ⌝ }
     ensures { λ r. ⌜ r ≡ machine-in (now (memory .entry)) ⌝ }
 {
-    Machine { ring: memory[0], serving: serving_in(memory[1], memory[2], memory[3], memory[4]) }
+    Machine {
+        ring: memory[0],
+        serving: serving_in(memory[1], memory[2], memory[3], memory[4]),
+    }
 }
 
 fn machine_cells(machine: Machine) -> [u64; 8]
@@ -85,7 +96,13 @@ fn step_whole<C: Client + Drop>(memory: &mut [u64], event: Event, out: &mut [u8]
     let mut cells = [0; 120];
     cells.copy_from_slice(&memory[8..128]);
     let mut client = C::load(&cells);
-    let told = serve(&mut machine, &mut client, &mut memory[128..262_144], event, out);
+    let told = serve(
+        &mut machine,
+        &mut client,
+        &mut memory[128..262_144],
+        event,
+        out,
+    );
     memory[0..8].copy_from_slice(&machine_cells(machine));
     memory[8..128].copy_from_slice(&client.save());
     told

@@ -22,7 +22,7 @@ returns g c =
     let long : eqb (length m) 262144 ≡ true = eq-eqb (length m) 262144 (c .if-memory-ne-CELLS .left) in
     let fits : engine-fits m out ≡ true = and-from (eqb (length m) 262144) (leb 131072 (length out)) long (le-leb 131072 (length out) (c .if-out-lt-ROW .left)) in
     let steps : engine f .step m ev ≡ stepped-in f m ev = pick-true (eqb (length m) 262144) (stepped-in f m ev) (record { memory = m; act = done }) long in
-    subst (λ b. Step-told b f m ev out (c .step-whole .result) (c .step-whole .last .memory) (c .step-whole .last .out)) (sym fits)
-    ( c .step-whole .ensures .memory ∙ sym (ap (λ (s : Step). s .memory) steps)
-    , subst (λ (s : Step). Act-told (s .act) (c .step-whole .result) out (c .step-whole .last .out)) (sym steps) (c .step-whole .ensures .told)
+    subst (λ b. Step-told b f m ev out (c .step-whole .result) (c .step-whole .last .memory) (c .step-whole .last .out)) (sym fits) (
+      c .step-whole .ensures .memory ∙ sym (ap (λ (s : Step). s .memory) steps),
+      subst (λ (s : Step). Act-told (s .act) (c .step-whole .result) out (c .step-whole .last .out)) (sym steps) (c .step-whole .ensures .told),
     )
