@@ -98,7 +98,7 @@ Safe n Stop other d there ss =
 unfoldable pub Held : {K : Type 0} → Housed K → (n : ℕ) → Bool → (K → List ℕ → List ℕ → List ℕ → ℕ → Rows → ℕ → Type 0) → World → World → World → Rows → ℕ → Type 0
 Held {K} f n still End other w there ss reply =
     (there ≡ other) × (k : K) × (m : List ℕ) × (h : List ℕ) × (t : List ℕ) × (laid : ℕ) × Tied n still (w .device) h t laid
-    × (w .memory ≡ image f (record { ring = n; serving = Idle }) k m) × (w .up ≡ true) × (small m ≡ true) × (length m ≡ bulk-cells) × End k m h t laid ss reply
+    × (w .memory ≡ image f (record { ring = n; serving = Idle }) k m) × (w .up ≡ true) × (small (f .save k) ≡ true) × (small m ≡ true) × (length m ≡ bulk-cells) × End k m h t laid ss reply
 
 -- A client that goes well on the tape goes well on the device, whatever the stops: for every client that keeps its cells and bounds, and whatever is asked
 -- of stops and of the end.
