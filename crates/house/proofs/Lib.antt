@@ -4,3 +4,4 @@ pub mod FineLaws
 pub mod CarryLaws
 pub mod MorningLaws
 pub mod Simulation
+pub mod OnTape
