@@ -5,3 +5,4 @@ pub mod CarryLaws
 pub mod MorningLaws
 pub mod Simulation
 pub mod OnTape
+pub mod Nothing

@@ -9,6 +9,7 @@ ghost use Prim.Native.Nat.{_≤_, _<_};
 
 pub mod client;
 pub mod laws;
+pub mod promise;
 
 use client::HouseClient;
 use client::Registers;
