@@ -1,2 +1,4 @@
 pub mod Tree
+pub mod Order
+pub mod Row
 pub mod Laws

@@ -1,2 +1,5 @@
 // Trees of files, and how two of them are put together.
+mod entries;
+mod keys;
 pub mod laws;
+pub mod rows;
