@@ -4,3 +4,4 @@ pub mod KeyLaws
 pub mod RowLaws
 pub mod MoveLaws
 pub mod PutLaws
+pub mod DifferLaws

@@ -1,4 +1,5 @@
 pub mod Tree
 pub mod Order
 pub mod Row
+pub mod Differ
 pub mod Laws

@@ -1,4 +1,5 @@
 // Trees of files, and how two of them are put together.
+pub mod differences;
 mod entries;
 mod keys;
 pub mod laws;
