@@ -5,3 +5,5 @@ pub mod RowLaws
 pub mod MoveLaws
 pub mod PutLaws
 pub mod DifferLaws
+pub mod PackLaws
+pub mod RowOfLaws

@@ -2,4 +2,6 @@ pub mod Tree
 pub mod Order
 pub mod Row
 pub mod Differ
+pub mod RowOf
+pub mod RowPromises
 pub mod Laws
