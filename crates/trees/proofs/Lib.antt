@@ -7,3 +7,6 @@ pub mod PutLaws
 pub mod DifferLaws
 pub mod PackLaws
 pub mod RowOfLaws
+pub mod StoredLaws
+pub mod SpreadLaws
+pub mod BackAgain

@@ -134,7 +134,7 @@ bytes-zeros (suc n) = bytes-zeros n
 bytes-pad : (p : List ℕ) → all-bytes p ≡ true → all-bytes (padded p) ≡ true
 bytes-pad p h = all-bytes-append p (zeros (64 - length p)) ∙ and-from (all-bytes p) (all-bytes (zeros (64 - length p))) h (bytes-zeros (64 - length p))
 
-proper-parts : (p : List ℕ) → proper p ≡ true → (length p ≤ 64) × (all-bytes p ≡ true)
+pub proper-parts : (p : List ℕ) → proper p ≡ true → (length p ≤ 64) × (all-bytes p ≡ true)
 proper-parts p h =
     let a = and-parts (good-path p) (all-bytes p) h in
     (leb-true (length p) 64 (and-parts (leb 1 (length p)) (leb (length p) 64) (a .0) .1), a .1)

@@ -26,7 +26,7 @@ use Rattle.trees.proofs.PackLaws.{key-same, key-earlier, length-key, path-back
 
 -- GOOD KEYS
 
-good-parts : (k : List ℕ) → good-key k ≡ true → (proper (path-of k) ≡ true) × (k ≡ key-of (path-of k))
+pub good-parts : (k : List ℕ) → good-key k ≡ true → (proper (path-of k) ≡ true) × (k ≡ key-of (path-of k))
 good-parts k h =
     let a = and-parts (proper (path-of k)) (same (key-of (path-of k)) k) h in (a .0, sym (same-true (key-of (path-of k)) k (a .1)))
 
@@ -127,7 +127,7 @@ weight-small (f ∷ fs) h =
 
 -- WHAT WAS WRITTEN IS READ BACK
 
-abbrev whole : File → Bool
+abbrev pub whole : File → Bool
 whole f = eqb (length (f .path)) 9 && eqb (length (f .bytes)) 1
 
 cut-whole : (n : ℕ) (ws : List ℕ) → 10 * n ≤ length ws → every whole (cut n ws) ≡ true
@@ -137,7 +137,7 @@ cut-whole (suc n) ws h =
     and-from (eqb (length (take 9 ws)) 9 && true) (every whole (cut n (drop 10 ws))) (and-from (eqb (length (take 9 ws)) 9) true (eq-eqb _ _ (length-take-le 9 ws (omega arith))) refl)
     (cut-whole n (drop 10 ws) (omega (arith, length-drop 10 ws)))
 
-only-one : (bs : List ℕ) → length bs ≡ 1 → getD bs 0 0 ∷ [] ≡ bs
+pub only-one : (bs : List ℕ) → length bs ≡ 1 → getD bs 0 0 ∷ [] ≡ bs
 only-one [] e = absurd (omega arith)
 only-one (b ∷ []) e = refl
 only-one (b ∷ c ∷ bs) e = absurd (omega arith)
@@ -217,10 +217,10 @@ finds-right stands ws t p row h =
     ∙ ap (λ u. found u p) (row .is)
 
 -- a row is as long as its tree, and its words are whole
-row-length : (stands : ℕ → List ℕ) (ws : List ℕ) (t : Tree) → Row-of stands ws t → length t ≡ held ws
+pub row-length : (stands : ℕ → List ℕ) (ws : List ℕ) (t : Tree) → Row-of stands ws t → length t ≡ held ws
 row-length stands ws t row = sym (ap length (row .is)) ∙ length-each (file-of stands) (entries-of ws) ∙ length-cut (held ws) (drop 2 ws)
 
-row-whole : (ws : List ℕ) → every whole (entries-of ws) ≡ true
+pub row-whole : (ws : List ℕ) → every whole (entries-of ws) ≡ true
 row-whole ws = cut-whole (held ws) (drop 2 ws) (omega (arith, length-drop 2 ws))
 
 short-paths : (stands : ℕ → List ℕ) (es : Tree) → every (λ f. good-key (f .path)) es ≡ true → every (λ f. leb (length (f .path)) 64) (each (file-of stands) es) ≡ true
@@ -236,7 +236,7 @@ row-light stands ws t row =
     omega (arith, weight-small t s, row-length stands ws t row)
 
 -- entries with their weight, written into a row, are a row
-row-rewritten : (stands : ℕ → List ℕ) (ws : List ℕ) (es t : Tree) (w : ℕ) → 2 ≤ length ws → length es ≤ room ws → every whole es ≡ true →
+pub row-rewritten : (stands : ℕ → List ℕ) (ws : List ℕ) (es t : Tree) (w : ℕ) → 2 ≤ length ws → length es ≤ room ws → every whole es ≡ true →
     every (λ f. good-key (f .path)) es ≡ true → rising-paths es ≡ true → w ≡ weight-of t → each (file-of stands) es ≡ t → Row-of stands (rewritten w es ws) t
 unfolding rewritten
 row-rewritten stands ws es t w l m o k r we i =

@@ -12,6 +12,7 @@ use Rattle.pages.specs.Lists.{pick, each, has, same, earlier, none-of, first-or
 use Rattle.trees.specs.declared.rows.Refused.the-variants.{Full}
 use Rattle.trees.specs.Tree.{File, Tree, found, put, without, same-tree}
 use Rattle.trees.specs.Row.{key-of, path-of, room, entries-of, find-in, put-in, put-answer, take-from, taken-from}
+use Rattle.trees.specs.Packed.{squeezed, spread-fits, spread-into}
 use Rattle.trees.specs.RowOf.{proper, Row-of}
 
 -- Keys are ordered as paths are, and a key gives its path back.
@@ -57,3 +58,9 @@ unfoldable pub Same-right : Type 0
 Same-right =
     (stands : ℕ → List ℕ) (xs ys : List ℕ) (t u : Tree) → Row-of stands xs t → Row-of stands ys u → Apart stands xs ys →
     same-tree (entries-of xs) (entries-of ys) ≡ same-tree t u
+
+-- A row that was stored, and spread into any row with room for its files, gives its entries and its weight; spread into itself it stays.
+unfoldable pub Stored-right : Type 0
+Stored-right =
+    (stands : ℕ → List ℕ) (ws : List ℕ) (t : Tree) (z into : List ℕ) → Row-of stands ws t → 2 ≤ length into → length t ≤ room into →
+    (spread-fits (squeezed ws ++ z) into ≡ true) × Row-of stands (spread-into (squeezed ws ++ z) into) t × (spread-into (squeezed ws ++ z) ws ≡ ws)

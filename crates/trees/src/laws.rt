@@ -1,6 +1,6 @@
 // Laws of joining: theorems about the definitions in specs/, each on the contract of a function that does nothing else.
 ghost use Rattle.trees.specs.Laws.{Joined-right, One-side, Files-found, One-tree};
-ghost use Rattle.trees.specs.RowPromises.{Empty-right, Finds-right, Keys-ordered, Puts-right, Same-right, Takes-right};
+ghost use Rattle.trees.specs.RowPromises.{Empty-right, Finds-right, Keys-ordered, Puts-right, Same-right, Stored-right, Takes-right};
 
 // After joining there is at each path what the rule says; a clash is one from either side, and where there is none both sides come to the same.
 pub fn joins_rightly() -> u8
@@ -68,6 +68,13 @@ pub fn rows_take_rightly() -> u8
 // Two rows are the same exactly if their trees are.
 pub fn same_rows_same_tree() -> u8
     ensures { λ _. ⌜ Same-right ⌝ }
+{
+    0
+}
+
+// A row that was stored is spread again as it was.
+pub fn stored_rows_come_back() -> u8
+    ensures { λ _. ⌜ Stored-right ⌝ }
 {
     0
 }

@@ -4,3 +4,4 @@ mod entries;
 mod keys;
 pub mod laws;
 pub mod rows;
+pub mod stored;
