@@ -1,2 +1,12 @@
 pub mod TreeLaws
 pub mod JoinLaws
+pub mod KeyLaws
+pub mod RowLaws
+pub mod MoveLaws
+pub mod PutLaws
+pub mod DifferLaws
+pub mod PackLaws
+pub mod RowOfLaws
+pub mod StoredLaws
+pub mod SpreadLaws
+pub mod BackAgain

@@ -1,0 +1,11 @@
+use mathlib.Core.Path.{_≡_, refl, _∙_}
+use Prim.Native.Nat.{_+_, _*_, _-_}
+use native.Mathlib.Omega.{arith}
+use Rattle.trees.proofs.MoveLaws.{replace-laid}
+use Rattle.trees.proofs.entries.replace.Needs as need
+
+pub returns : need.returns
+returns c =
+    let k : 10 * c .args .at + 10 - 10 * c .args .at ≡ 10 = omega arith in
+    replace-laid (c .args .n) (c .args .at) (10 * c .args .at) (10 * c .args .at + 10 - 10 * c .args .at) (c .args .reference) (c .args .body .now) (c .copy-from-slice .last .self) (c .args .key .now) (c .pre .0) (omega arith) refl k
+    (c .copy-from-slice .ensures .after ∙ c .ten .ensures)
