@@ -331,7 +331,7 @@ fn bytes_of<'a>(heap: Global, line: &'a str) -> Result<Vec<u8>, Unread<'a>> {
 }
 
 // What a line of text asks for.
-fn wish_in<'a>(heap: Global, line: &'a str) -> Result<Asked, Unread<'a>> {
+fn asked_in<'a>(heap: Global, line: &'a str) -> Result<Asked, Unread<'a>> {
     if line.trim_start_matches(' ').is_empty() || line.starts_with('#') {
         return Ok(Asked::Nothing);
     }
@@ -342,9 +342,9 @@ fn wish_in<'a>(heap: Global, line: &'a str) -> Result<Asked, Unread<'a>> {
 }
 
 // What a line asks for.
-pub fn wish_of<'a>(heap: Global, line: &'a [u8]) -> Result<Asked, Unread<'a>> {
+pub fn asked_by<'a>(heap: Global, line: &'a [u8]) -> Result<Asked, Unread<'a>> {
     match std::str::from_utf8(line) {
-        Ok(text) => wish_in(heap, text),
+        Ok(text) => asked_in(heap, text),
         Err(_) => Err(Unread::NoText),
     }
 }

@@ -11,7 +11,7 @@ use driver::Driver;
 use driver::End;
 use driver::print_row;
 use line::Asked;
-use line::wish_of;
+use line::asked_by;
 use page_file::FEWEST;
 use page_file::MOST;
 use page_file::PageFile;
@@ -66,15 +66,11 @@ fn file_at(rt: &LibcRuntime, path: &str, pages: Option<u64>) -> Result<PageFile,
 }
 
 fn new_file(rt: &LibcRuntime, path: &str, pages: Option<u64>) -> Result<PageFile, Trouble> {
-    let pages = match pages {
-        Some(pages) => pages,
-        None => {
-            let said = eprintln!(rt, "boat: {path}: a new file of {PAGES} pages");
-            system("print", said)?;
-            PAGES
-        }
-    };
-    PageFile::make(rt, path, pages)
+    let pages = pages.unwrap_or(PAGES);
+    let file = PageFile::make(rt, path, pages)?;
+    let said = eprintln!(rt, "boat: {path}: a new file of {pages} pages");
+    system("print", said)?;
+    Ok(file)
 }
 
 // Asks the house with the bytes, and prints how that ended.
@@ -88,7 +84,7 @@ fn ask(rt: &LibcRuntime, driver: &mut Driver, bytes: &[u8]) -> Result<(), Troubl
 
 // Answers one line.
 fn answer(rt: &LibcRuntime, driver: &mut Driver, number: u64, line: &[u8]) -> Result<(), Trouble> {
-    match wish_of(rt.alloc(), line) {
+    match asked_by(rt.alloc(), line) {
         Ok(Asked::Nothing) => Ok(()),
         Ok(Asked::Run(bytes)) => ask(rt, driver, bytes.as_slice()),
         Ok(Asked::Spell(bytes)) => print_row(rt, bytes.as_slice()),
