@@ -2,9 +2,9 @@
 use crate::hex;
 use crate::page_file::PAGE;
 use crate::page_file::PageFile;
-use crate::page_file::system;
 use crate::trouble::Trouble;
 use crate::trouble::TroubleFromAlloc;
+use crate::trouble::system;
 use house::step;
 use pages::bytes::in_eight;
 use pages::told::Told;
@@ -97,7 +97,7 @@ impl Driver {
 
     // A page that is not there has no bytes.
     fn read(&mut self, number: u64) -> Result<Told, Trouble> {
-        let mut page = [0u8; 512];
+        let mut page = [0u8; PAGE];
         if number >= self.file.pages() {
             return Ok(self.tell(Kind::Page, &[]));
         }
@@ -106,7 +106,7 @@ impl Driver {
     }
 
     fn write(&mut self, number: u64) -> Result<(), Trouble> {
-        let Some(page) = self.out.as_slice().get(0..512) else {
+        let Some(page) = self.out.as_slice().get(0..PAGE) else {
             return Err(Trouble::Fault);
         };
         if number >= self.file.pages() {

@@ -12,10 +12,8 @@ use driver::End;
 use driver::print_row;
 use line::Asked;
 use line::asked_by;
-use page_file::FEWEST;
-use page_file::MOST;
 use page_file::PageFile;
-use page_file::system;
+use page_file::is_house;
 use std::env;
 use std::fs;
 use std::io;
@@ -24,6 +22,7 @@ use std::io::BufReader;
 use trouble::Trouble;
 use trouble::TroubleDisplay;
 use trouble::TroubleFromAlloc;
+use trouble::system;
 use unread::UnreadDisplay;
 
 // The number of pages of a file that is made, where none is asked for.
@@ -32,14 +31,8 @@ const PAGES: u64 = 4096;
 // The number of pages that is asked for.
 fn count_of(text: &str) -> Result<u64, Trouble> {
     match text.parse::<u64>() {
-        Ok(pages) => {
-            if FEWEST <= pages && pages <= MOST {
-                Ok(pages)
-            } else {
-                Err(Trouble::Count)
-            }
-        }
-        Err(_) => Err(Trouble::Count),
+        Ok(pages) if is_house(pages) => Ok(pages),
+        _ => Err(Trouble::Count),
     }
 }
 

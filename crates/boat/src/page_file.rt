@@ -1,8 +1,11 @@
 // A file of pages.
-ghost use Prim.Native.Nat.{_≤_};
+ghost use mathlib.Core.Bool.{_&&_};
+ghost use mathlib.Core.Path.{_≡_};
+ghost use lib.Dec.{leb};
+ghost use Prim.Native.Nat.{_*_, _≤_};
+ghost use Rattle.std.specs.Vec.{made};
 use crate::trouble::Trouble;
-use crate::trouble::TroubleDebug;
-use std::fs;
+use crate::trouble::system;
 use std::fs::File;
 use std::fs::OpenOptions;
 use std::io;
@@ -12,11 +15,11 @@ use std::io::SeekFrom;
 use std::io::Write;
 use std::path::Path;
 
-pub const PAGE: u64 = 512;
+pub const PAGE: usize = 512;
 
-pub const FEWEST: u64 = 64;
+const FEWEST: u64 = 64;
 
-pub const MOST: u64 = 1048576;
+const MOST: u64 = 1048576;
 
 #[derive(Drop)]
 pub struct PageFile {
@@ -24,19 +27,11 @@ pub struct PageFile {
     pages: u64,
 }
 
-pub fn system<T: Drop>(what: &'static str, result: io::Result<T>) -> Result<T, Trouble> {
-    match result {
-        Ok(value) => Ok(value),
-        Err(error) => Err(Trouble::System(what, error)),
-    }
-}
-
 impl PageFile {
     // A new file of so many pages of zeros, on the disk with its name.
     pub fn make(rt: &LibcRuntime, path: &str, pages: u64) -> Result<PageFile, Trouble> {
         let file = system("make the file", File::create_new(rt, path))?;
-        let size = pages.saturating_mul(PAGE);
-        system("give the file its length", file.set_len(size))?;
+        system("give the file its length", file.set_len(place_of(pages)))?;
         system("make the file last", file.sync_all())?;
         sync_folder(rt, path)?;
         Ok(PageFile { file, pages })
@@ -56,17 +51,14 @@ impl PageFile {
         self.pages
     }
 
-    // Reads a page, of 512 bytes.
-    pub fn read_page(&mut self, number: u64, page: &mut [u8]) -> io::Result<()> {
-        self.file
-            .seek(SeekFrom::Start(number.saturating_mul(PAGE)))?;
+    pub fn read_page(&mut self, number: u64, page: &mut [u8; PAGE]) -> io::Result<()> {
+        self.file.seek(SeekFrom::Start(place_of(number)))?;
         self.file.read_exact(page)
     }
 
-    // Writes a page, of 512 bytes.
+    // Writes the bytes of a page.
     pub fn write_page(&mut self, number: u64, page: &[u8]) -> io::Result<()> {
-        self.file
-            .seek(SeekFrom::Start(number.saturating_mul(PAGE)))?;
+        self.file.seek(SeekFrom::Start(place_of(number)))?;
         self.file.write_all(page)
     }
 
@@ -76,10 +68,26 @@ impl PageFile {
     }
 }
 
-// How many pages a file of so many bytes has, if that is a number that a house can have.
-pub fn pages_in(bytes: u64) -> Result<u64, Trouble> {
-    let pages = bytes / PAGE;
-    if bytes % PAGE == 0 && FEWEST <= pages && pages <= MOST {
+// Where a page begins in the file.
+fn place_of(number: u64) -> u64
+    ensures { λ r. ⌜ (number ≤ 1048576 → r ≡ number * 512) ⌝ }
+{
+    number.saturating_mul(PAGE as u64)
+}
+
+// Whether a house can have so many pages.
+pub fn is_house(pages: u64) -> bool
+    ensures { λ r. ⌜ r ≡ leb 64 pages && leb pages 1048576 ⌝ }
+{
+    FEWEST <= pages && pages <= MOST
+}
+
+// How many pages a file of so many bytes has, if they are whole and a house can have so many.
+fn pages_in(bytes: u64) -> Result<u64, Trouble>
+    ensures { λ r. ⌜ made r (λ n. (n * 512 ≡ bytes) × (64 ≤ n) × (n ≤ 1048576)) ⌝ }
+{
+    let pages = bytes / PAGE as u64;
+    if bytes % PAGE as u64 == 0 && is_house(pages) {
         Ok(pages)
     } else {
         Err(Trouble::Size(bytes))

@@ -59,3 +59,11 @@ pub impl fmt::Display for Trouble as TroubleDisplay {
         }
     }
 }
+
+// What the system answered, or what could not be done.
+pub fn system<T: Drop>(what: &'static str, result: io::Result<T>) -> Result<T, Trouble> {
+    match result {
+        Ok(value) => Ok(value),
+        Err(error) => Err(Trouble::System(what, error)),
+    }
+}
