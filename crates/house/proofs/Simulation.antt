@@ -9,7 +9,7 @@ use native.Mathlib.Decide.{ℕ-discrete}
 use lib.Dec.{ltb}
 use lib.ListN.{length, getD, set, length-set}
 use lib.Seq.{getD-set-same, getD-set-other, set-getD, set-out}
-use borrow.Author.Tests.{ltb-true}
+use Rattle.std.proofs.shelf.Tests.{ltb-true, and-parts}
 use Rattle.pages.specs.Lists.{pick, so-many}
 use Rattle.pages.specs.Device.{Device}
 use Rattle.pages.specs.Run.{Engine, Event, on, said, World, Ran, runs}
@@ -20,18 +20,10 @@ use Rattle.house.specs.House.{Plain, empty-clone, clone-at, turn}
 use Rattle.house.specs.Promise.{Never, Said, Still-apart, Known-allowed, Allowed, Item, power, power-stops, whole, stops, flag, set-flag, not-up, proper, world-at, set-world, no-world, new-world, peer, powered, dark, woken, ran-as, worlds-after, Right}
 use Rattle.house.specs.Simulation.{Setting, lightless, turned, at-first, Relation, Peer-holds, Cut, Over, Outcome, Woken-cut, Woken, Turned, Obligations, Simulated}
 
-and-left : (a b : Bool) → a && b ≡ true → a ≡ true
-and-left true b h = refl
-and-left false b h = h
-
-and-right : (a b : Bool) → a && b ≡ true → b ≡ true
-and-right true b h = h
-and-right false b h = let z : _≡_ {A = ℕ} 0 1 = cc in absurd (omega arith)
-
 -- a house that may be given power is one, and has none
 dark-flag : (us : List Bool) (c : ℕ) → not-up us c ≡ true → (c < length us) × (flag us c ≡ false)
 unfolding not-up
-dark-flag us c h = (ltb-true c (length us) (and-left (ltb c (length us)) (pick (flag us c) false true) h), go (flag us c) (and-right (ltb c (length us)) (pick (flag us c) false true) h))
+dark-flag us c h = (ltb-true c (length us) (and-parts (ltb c (length us)) (pick (flag us c) false true) h .0), go (flag us c) (and-parts (ltb c (length us)) (pick (flag us c) false true) h .1))
   where
     go : (b : Bool) → pick b false true ≡ true → b ≡ false
     go true e = sym e
@@ -323,17 +315,17 @@ module _ (Fine : ℕ → Plain → Type 0) (Holds : Relation) (s : Setting) (o :
   unfolding Right proper Rest
   walk [] us vs w ok st = refl
   walk (power c ∷ is) us vs w ok st =
-      power-comes (length is) c us vs w is (and-left (not-up us c) (proper (set-flag us c true) is) ok) st
-      (λ vs₁ w₁ st₁. walk is (set-flag us c true) vs₁ w₁ (and-right (not-up us c) (proper (set-flag us c true) is) ok) st₁)
+      power-comes (length is) c us vs w is (and-parts (not-up us c) (proper (set-flag us c true) is) ok .0) st
+      (λ vs₁ w₁ st₁. walk is (set-flag us c true) vs₁ w₁ (and-parts (not-up us c) (proper (set-flag us c true) is) ok .1) st₁)
   walk (power-stops c n cs ∷ is) us vs w ok st =
-      power-goes-again (length is) c n cs us vs w is (and-left (not-up us c) (proper us is) ok) st
-      (λ vs₁ w₁ st₁. walk is us vs₁ w₁ (and-right (not-up us c) (proper us is) ok) st₁)
+      power-goes-again (length is) c n cs us vs w is (and-parts (not-up us c) (proper us is) ok .0) st
+      (λ vs₁ w₁ st₁. walk is us vs₁ w₁ (and-parts (not-up us c) (proper us is) ok .1) st₁)
   walk (whole c t ls ∷ is) us vs w ok st =
-      command-whole (length is) c t ls us vs w is (and-left (flag us c) (proper us is) ok) st
-      (λ vs₁ w₁ st₁. walk is us vs₁ w₁ (and-right (flag us c) (proper us is) ok) st₁)
+      command-whole (length is) c t ls us vs w is (and-parts (flag us c) (proper us is) ok .0) st
+      (λ vs₁ w₁ st₁. walk is us vs₁ w₁ (and-parts (flag us c) (proper us is) ok .1) st₁)
   walk (stops c t ls n cs ∷ is) us vs w ok st =
-      command-cut (length is) c t ls n cs us vs w is (and-left (flag us c) (proper (set-flag us c false) is) ok) st
-      (λ vs₁ w₁ st₁. walk is (set-flag us c false) vs₁ w₁ (and-right (flag us c) (proper (set-flag us c false) is) ok) st₁)
+      command-cut (length is) c t ls n cs us vs w is (and-parts (flag us c) (proper (set-flag us c false) is) ok .0) st
+      (λ vs₁ w₁ st₁. walk is (set-flag us c false) vs₁ w₁ (and-parts (flag us c) (proper (set-flag us c false) is) ok .1) st₁)
 
 length-so-many : {A : Type 0} (n : ℕ) (x : A) → length (so-many n x) ≡ n
 unfolding so-many

@@ -89,3 +89,14 @@ module _ (e : Engine) (C : Device → World → Rows → Type 0) (Q : World → 
 pub runs-well : (C : Device → World → Rows → Type 0) (Q : World → World → Rows → ℕ → Type 0) → Runs-well C Q
 unfolding Runs-well
 runs-well C Q e d ls w v ev ss g = (ends-well e C Q d g, stops-well e C Q d g)
+
+-- what holds of stops and of the end may be weakened
+pub goes-weaken : (e : Engine) (C D : Device → World → Rows → Type 0) (Q R : World → World → Rows → ℕ → Type 0) →
+    ((d : Device) (v : World) (ss : Rows) → C d v ss → D d v ss) → ((w v : World) (ss : Rows) (k : ℕ) → Q w v ss k → R w v ss k) →
+    {ls : ℕ} {w v : World} {ev : Event} {ss : Rows} → Goes e C Q ls w v ev ss → Goes e D R ls w v ev ss
+goes-weaken e C D Q R f g (reads ls w v ev ss m k c q r) = reads ls w v ev ss m k (f (w .device) v ss c) q (goes-weaken e C D Q R f g r)
+goes-weaken e C D Q R f g (writes ls w v ev ss m k p c q t r) = writes ls w v ev ss m k p (f (w .device) v ss c) q t (goes-weaken e C D Q R f g r)
+goes-weaken e C D Q R f g (flushes ls w v ev ss m c q r) = flushes ls w v ev ss m (f (w .device) v ss c) q (goes-weaken e C D Q R f g r)
+goes-weaken e C D Q R f g (showing ls w v ev ss m s c q r) = showing ls w v ev ss m s (f (w .device) v ss c) q (goes-weaken e C D Q R f g r)
+goes-weaken e C D Q R f g (ends ls w v ev ss m c q z) = ends ls w v ev ss m (f (w .device) v ss c) q (g (in-memory w m) v ss 0 z)
+goes-weaken e C D Q R f g (refuses ls w v ev ss m k c q z) = refuses ls w v ev ss m k (f (w .device) v ss c) q (g (in-memory w m) v ss (refusal-end k) z)

@@ -6,3 +6,4 @@ pub mod WordLaws
 pub mod TapeLaws
 pub mod EngineLaws
 pub mod Sound
+pub mod Handing

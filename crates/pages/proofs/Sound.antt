@@ -454,7 +454,7 @@ module _ {K : Type 0} (f : Housed K) (law : Lawful f) (n : ℕ) (still : Bool) (
       (law .resumes-length (a .state) (a .memory) ∙ l) (law .resumes-small (a .state) (a .memory) (s .state) (s .memory)))
   sound (finishes a h t laid ss zero rq most end) w ev eq up td st l s =
       Goes.ends ls w other ev ss (image f (machine Idle) (a .state) (a .memory)) (safe (w .device) h t laid ss td st) (eq ∙ begins a (Finish 0) rq)
-      (refl, a .state, a .memory, h, t, laid, td, refl, up, s .memory, l, end)
+      (refl, a .state, a .memory, h, t, laid, td, refl, up, s .state, s .memory, l, end)
   sound (finishes a h t laid ss (suc reply) rq most end) w ev eq up td st l s =
       refuses ls w other ev ss (image f (machine Idle) (a .state) (a .memory)) (suc reply) (safe (w .device) h t laid ss td st)
       (eq ∙ begins a (Finish (suc reply)) rq ∙ ap (λ (b : Bool). stepped (image f (machine Idle) (a .state) (a .memory)) (pick b done (refused (suc reply)))) (ne-eqb (suc reply) 0 (λ e. omega arith))) (
@@ -467,6 +467,7 @@ module _ {K : Type 0} (f : Housed K) (law : Lawful f) (n : ℕ) (still : Bool) (
         td,
         refl,
         up,
+        s .state,
         s .memory,
         l,
         subst (λ (x : ℕ). End (a .state) (a .memory) h t laid ss x)

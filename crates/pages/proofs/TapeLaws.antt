@@ -12,6 +12,7 @@ use Rattle.std.proofs.shelf.Tests.{eqb-false, ne-eqb, cases-lt, false≢true}
 use Rattle.std.proofs.shelf.Lists.{take-at, drop-at, take-all, take-take, take-append-le, drop-append-le, drop-take, length-take-le}
 use Rattle.pages.specs.Lists.{pick, zeros}
 use Rattle.pages.specs.Device.{Device, Page, Write, page-at, set-page, all-written, left, half, flushed, stopped, read-page, blank, a-page}
+use Rattle.pages.specs.Bytes.{in-bytes}
 use Rattle.pages.specs.Words.{words, bytes-of, page-words, small}
 use Rattle.pages.specs.Laws.{elsewhere}
 use Rattle.pages.specs.Run.{queued, writable}
@@ -286,3 +287,32 @@ tied-heading n q ps h t laid new (c ∷ cs) td up rise inside l s =
     there : (page : Page) → page ≡ head-page new → Tied n true (record { pages = set-page ps 0 page; queue = [] }) new (published new t) (last-page new)
     there page e =
         tied-stopped n q (record { pages = set-page ps 0 page; queue = [] }) new t laid [] (tied-head n q ps h t laid new page td up rise inside l s e)
+
+-- a new device holds a head of zeros and an empty tape
+pub tied-new : (n : ℕ) → 1 ≤ n → Tied n true (record { pages = blank (suc n); queue = [] }) (zeros 32) [] 0
+unfolding page-at blank head-page bytes-of zeros elsewhere small in-bytes
+tied-new n h =
+    record {
+      window =
+          record {
+            ring = h;
+            head-length = refl;
+            head-small = refl;
+            tape-length = refl;
+            tape-small = refl;
+            bounded = omega arith;
+            rising = omega arith;
+            within = omega arith;
+            room = omega arith;
+          };
+      pages = length-blank (suc n);
+      head = refl;
+      seen = λ v lo hi. absurd (omega arith);
+      head-waits = refl;
+      waits = λ v lo hi. refl;
+      stills = λ _ _. refl;
+    }
+  where
+    length-blank : (k : ℕ) → length (blank k) ≡ k
+    length-blank zero = refl
+    length-blank (suc k) = ap suc (length-blank k)

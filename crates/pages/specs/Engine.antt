@@ -1,14 +1,17 @@
 -- The engine of a client: its registers and the machine's stand in the first cells of memory, the buffer and all else behind them.
 -- Assumes nothing: these are definitions.
 use mathlib.Core.Path.{_≡_}
-use mathlib.Core.Bool.{Bool, true, false}
+use mathlib.Core.Bool.{Bool, true, false, _&&_}
 use mathlib.Core.List.{List, [], _∷_, _++_}
 use Prim.Native.Nat.{ℕ, zero, suc}
-use lib.Dec.{eqb}
+use lib.Dec.{eqb, leb}
 use lib.ListN.{length, getD, take, drop}
 use Rattle.pages.specs.Lists.{pick, zeros}
 use Rattle.pages.specs.Words.{small}
 use Rattle.pages.specs.Run.{Engine, Event, Step, done}
+use Rattle.pages.specs.Told.{Act-told}
+use Rattle.pages.specs.declared.told.Told.{Told}
+use Rattle.pages.specs.declared.told.Told.the-variants.{No}
 use Rattle.pages.specs.Machine.{Asked, Program, Moved, served}
 use Rattle.pages.specs.declared.machine.Request.{Request}
 use Rattle.pages.specs.declared.machine.Request.the-variants.{Recall, Look, Object, Lay, Publish, Show, Finish}
@@ -54,6 +57,9 @@ pub record Housed (K : Type 0) : Type 0 where
   pub load : List ℕ → K
   pub save : K → List ℕ
 
+abbrev pub housed : {K : Type 0} → Program K → (List ℕ → K) → (K → List ℕ) → Housed K
+housed p l s = record { program = p; load = l; save = s }
+
 abbrev pub image : {K : Type 0} → Housed K → Machine → K → List ℕ → List ℕ
 image f r k m = machine-cells r ++ (f .save k ++ m)
 
@@ -92,3 +98,11 @@ pub record Lawful {K : Type 0} (f : Housed K) : Type 0 where
   pub hears-small : (k : K) (m text : List ℕ) → small (f .save k) ≡ true → small m ≡ true → Small f (f .program .hears k m text)
   pub resumes-length : (k : K) (m : List ℕ) → length (f .program .resumes k m .memory) ≡ length m
   pub resumes-small : (k : K) (m : List ℕ) → small (f .save k) ≡ true → small m ≡ true → Small f (f .program .resumes k m)
+
+-- a step of the code: a memory of another length, or a lent row that has no room for a row of bytes, is left alone, and number 0 is told
+abbrev pub Step-told : {K : Type 0} → Bool → Housed K → (m : List ℕ) → Event → (out : List ℕ) → Told → (m₁ out₁ : List ℕ) → Type 0
+Step-told true f m ev out r m₁ out₁ = (m₁ ≡ engine f .step m ev .memory) × Act-told (engine f .step m ev .act) r out out₁
+Step-told false f m ev out r m₁ out₁ = (r ≡ No 0) × (m₁ ≡ m) × (out₁ ≡ out)
+
+abbrev pub engine-fits : List ℕ → List ℕ → Bool
+engine-fits m out = eqb (length m) memory-cells && leb 131072 (length out)

@@ -98,7 +98,7 @@ Safe n Stop other d there ss =
 unfoldable pub Held : {K : Type 0} → Housed K → (n : ℕ) → Bool → (K → List ℕ → List ℕ → List ℕ → ℕ → Rows → ℕ → Type 0) → World → World → World → Rows → ℕ → Type 0
 Held {K} f n still End other w there ss reply =
     (there ≡ other) × (k : K) × (m : List ℕ) × (h : List ℕ) × (t : List ℕ) × (laid : ℕ) × Tied n still (w .device) h t laid
-    × (w .memory ≡ image f (record { ring = n; serving = Idle }) k m) × (w .up ≡ true) × (small m ≡ true) × (length m ≡ bulk-cells) × End k m h t laid ss reply
+    × (w .memory ≡ image f (record { ring = n; serving = Idle }) k m) × (w .up ≡ true) × (small (f .save k) ≡ true) × (small m ≡ true) × (length m ≡ bulk-cells) × End k m h t laid ss reply
 
 -- A client that goes well on the tape goes well on the device, whatever the stops: for every client that keeps its cells and bounds, and whatever is asked
 -- of stops and of the end.
@@ -108,3 +108,11 @@ On-the-device {K} Stop End =
     Tied n still (w .device) h t laid → w .up ≡ true → w .memory ≡ image f r k m → r .ring ≡ n → length m ≡ bulk-cells → small (f .save k) ≡ true →
     small m ≡ true → Stop h (published h t) [] → Does (f .program) n Stop End (f .program .hears k m text) h t laid [] →
     Goes (engine f) (Safe n Stop other) (Held f n still End other) ls w other (said text) []
+
+-- A client of a higher crate hands phases down: where it does as a lower client does, and the lower one stays among these phases, what was shown of the lower one
+-- holds of it.
+abbrev pub Handed-down : {K : Type 0} → (List ℕ → List ℕ → Rows → Type 0) → (K → List ℕ → List ℕ → List ℕ → ℕ → Rows → ℕ → Type 0) → Type 0
+Handed-down {K} Stop End =
+    (lower higher : Program K) (phases : K → Bool) (n : ℕ) → ((k : K) (m : List ℕ) → phases k ≡ true → higher .resumes k m ≡ lower .resumes k m) →
+    ((k : K) (m : List ℕ) → phases k ≡ true → phases (lower .resumes k m .state) ≡ true) → (a : Asked K) (h t : List ℕ) (laid : ℕ) (ss : Rows) →
+    phases (a .state) ≡ true → Does lower n Stop End a h t laid ss → Does higher n Stop End a h t laid ss

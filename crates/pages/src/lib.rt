@@ -1,5 +1,6 @@
 // Pages that keep what is written through any stop.
 pub mod bytes;
+pub mod cells;
 pub mod laws;
 pub mod machine;
 pub mod told;

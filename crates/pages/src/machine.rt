@@ -71,6 +71,17 @@ pub trait Client {
 
     ghost resumes: { Self → List ℕ → Asked Self };
 
+    ghost loads: { List ℕ → Self };
+
+    ghost saves: { Self → List ℕ };
+
+    // The client that its cells hold, and the cells that hold it.
+    fn load(cells: &[u64; 120]) -> Self
+        ensures { λ r. ⌜ r ≡ loads (now (cells .entry)) ⌝ };
+
+    fn save(&self) -> [u64; 120]
+        ensures { λ r. ⌜ r ≡ saves (now (self .entry)) ⌝ };
+
     // Power comes.
     fn wake(&mut self, house: u64, houses: u64, pages: u64)
         ensures { λ _. ⌜ now (self .exit) ≡ wakes (now (self .entry)) house houses pages ⌝ };

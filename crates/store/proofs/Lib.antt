@@ -5,3 +5,4 @@ pub mod Digests
 pub mod Adding
 pub mod Padding
 pub mod Sums
+pub mod BitLaws

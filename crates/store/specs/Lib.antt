@@ -3,3 +3,4 @@ pub mod Mixing
 pub mod Rows
 pub mod Running
 pub mod Laws
+pub mod Bitmap
