@@ -7,7 +7,7 @@ use Prim.Native.Nat.{ℕ, zero, suc, _+_, _*_, _-_, _/_, _%_, _≤_, _<_}
 use lib.Dec.{eqb, ltb, leb}
 use lib.ListN.{length, getD, take, drop}
 use Rattle.pages.specs.Lists.{pick, or, every, any, each, those, flat, same, none-of, first-of, first-or, distinct, added-up}
-use Rattle.trees.specs.Tree.{Tree, File, alike, found, put, without, same-tree, joined, clashes, both, paths}
+use Rattle.trees.specs.Tree.{Tree, File, alike, found, put, without, same-tree, joined, clashes, both, paths, mark}
 use Rattle.history.specs.Book.{Book, Commit, Sum, nth, id, noted, place, back, under, latest-common, log, added}
 use Rattle.commands.specs.Command.{Command, write-file, drop-file, commit, branch, go-to, history, show-file, status, read-file, join, settle, leave, move-onto, carry, forget, tag, who, sweep, fetch}
 
@@ -127,12 +127,6 @@ reached b x = back b (added (each (λ r. r .to) (all-refs x) ++ (x .joining)) []
 
 unfoldable pub by-id : Sum → Book → List ℕ → List ℕ → List ℕ
 by-id sum b i ks = those (λ k. same (id sum b k) i) ks
-
--- what differs from the last commit: 1 new, 2 changed, 3 gone; 4 clashes
-unfoldable pub mark : Tree → Tree → List ℕ → List (List ℕ)
-mark old now p =
-    pick (alike (found old p) (found now p)) []
-    ((pick (none-of (found old p)) 1 (pick (none-of (found now p)) 3 2) ∷ p) ∷ [])
 
 -- the commits in a history from which a path is as it is
 abbrev pub makers : Book → List ℕ → List (List ℕ) → List ℕ → List ℕ

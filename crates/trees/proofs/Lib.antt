@@ -10,3 +10,5 @@ pub mod RowOfLaws
 pub mod StoredLaws
 pub mod SpreadLaws
 pub mod BackAgain
+pub mod MarkLaws
+pub mod AnswerLaws

@@ -14,13 +14,13 @@ use Rattle.std.specs.declared.result.Result.the-variants.{Ok, Err}
 use Rattle.std.proofs.shelf.Ways.{same-from-decides}
 use Rattle.pages.specs.Lists.{pick, every, each, flat, same, earlier, first-or, has, none-of, added-up}
 use Rattle.pages.specs.Bytes.{all-bytes}
-use Rattle.pages.proofs.ListLaws.{In, pick-both, pick-true, pick-false, same-true, same-from, same-sym, length-each, or-right, in-has}
+use Rattle.pages.proofs.ListLaws.{In, pick-both, pick-true, pick-false, same-true, same-from, same-sym, length-each, or-right, in-has, every-in, each-in, in-each}
 use Rattle.trees.specs.Tree.{File, Tree, found, put, without, same-tree, rising-paths}
 use Rattle.trees.specs.Row.{entry, good-path, key-of, path-of, cut, in-words, laid, held, room, entries-of, rewritten, putting, room-for, weight-put, put-key, put-in, has-key, take-key, take-from, taken-from, put-answer, find-in, reference-in}
 use Rattle.trees.specs.declared.rows.Refused.the-variants.{Path, Full}
 use Rattle.trees.specs.RowPromises.{Keys-ordered, Empty-right, Finds-right, Puts-right, Takes-right, Same-right, Apart, references, listed}
 use Rattle.trees.specs.RowOf.{proper, good-key, file-of, weight-of, Row-of}
-use Rattle.trees.proofs.TreeLaws.{put-every, without-every, put-rising, without-rising, found-one, length-without, same-tree-tells}
+use Rattle.trees.proofs.TreeLaws.{put-every, without-every, put-rising, without-rising, found-one, length-without, same-tree-tells, rising-first, rising-from, rising-rest}
 use Rattle.trees.proofs.RowLaws.{length-cut}
 use Rattle.trees.proofs.PackLaws.{key-same, key-earlier, length-key, path-back}
 
@@ -356,3 +356,21 @@ same-right stands xs ys t u r q a =
       λ h. each-back stands (entries-of xs) (entries-of ys) (r .keys) (q .keys) (row-whole xs) (row-whole ys) a (r .is ∙ e .0 h ∙ sym (q .is)),
       λ h. e .1 (sym (r .is) ∙ ap (each (file-of stands)) h ∙ q .is),
     )
+
+-- keys that rise are paths that rise
+each-rising : (stands : ℕ → List ℕ) (es : Tree) → every (λ f. good-key (f .path)) es ≡ true → rising-paths es ≡ true → rising-paths (each (file-of stands) es) ≡ true
+each-rising stands [] g r = r
+each-rising stands (f ∷ fs) g r =
+    let a = and-parts (good-key (f .path)) (every (λ f. good-key (f .path)) fs) g in
+    let k = good-parts (f .path) (a .0) in
+    rising-from (file-of stands f) (each (file-of stands) fs)
+    (λ q i.
+    let h : (x : File) × In x (each (file-of stands) fs) × (x .path ≡ q) = each-in (λ x. x .path) (each (file-of stands) fs) q i in
+    let e : (x : File) × In x fs × (file-of stands x ≡ h .0) = each-in (file-of stands) fs (h .0) (h .1) in
+    let good = every-in (λ f. good-key (f .path)) fs (a .1) (e .0) (e .1) in
+    let up : earlier (f .path) (e .0 .path) ≡ true = rising-first f fs r (e .0 .path) (in-each (λ x. x .path) fs (e .0) (e .1)) in
+    subst (λ x. earlier (path-of (f .path)) x ≡ true) (ap (λ x. x .path) (e .2) ∙ h .2)
+    (sym (earlier-key (path-of (f .path)) (e .0 .path) (k .0) good) ∙ ap (λ x. earlier x (e .0 .path)) (sym (k .1)) ∙ up)) (each-rising stands fs (a .1) (rising-rest f fs r))
+
+pub row-rising : (stands : ℕ → List ℕ) (ws : List ℕ) (t : Tree) → Row-of stands ws t → rising-paths t ≡ true
+row-rising stands ws t row = ap rising-paths (sym (row .is)) ∙ each-rising stands (entries-of ws) (row .keys) (row .rising)

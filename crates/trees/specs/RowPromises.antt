@@ -2,17 +2,18 @@
 use mathlib.Core.Path.{_≡_}
 use mathlib.Core.Bool.{Bool, true, false, not}
 use mathlib.Core.List.{List, [], _∷_, _++_}
-use Prim.Native.Nat.{ℕ, _≤_}
+use Prim.Native.Nat.{ℕ, _+_, _≤_}
 use lib.Dec.{leb}
 use lib.ListN.{length, getD}
 use Rattle.std.specs.declared.option.Option.{Option}
 use Rattle.std.specs.declared.option.Option.the-variants.{Some, None}
 use Rattle.std.specs.declared.result.Result.the-variants.{Ok, Err}
-use Rattle.pages.specs.Lists.{pick, each, has, same, earlier, none-of, first-or}
+use Rattle.pages.specs.Lists.{pick, each, flat, has, same, earlier, none-of, first-or}
 use Rattle.trees.specs.declared.rows.Refused.the-variants.{Full}
-use Rattle.trees.specs.Tree.{File, Tree, found, put, without, same-tree}
+use Rattle.trees.specs.Tree.{File, Tree, found, put, without, same-tree, both, paths, mark}
 use Rattle.trees.specs.Row.{key-of, path-of, room, entries-of, find-in, put-in, put-answer, take-from, taken-from}
 use Rattle.trees.specs.Packed.{squeezed, spread-fits, spread-into}
+use Rattle.trees.specs.Differ.{answers, shown}
 use Rattle.trees.specs.RowOf.{proper, Row-of}
 
 -- Keys are ordered as paths are, and a key gives its path back.
@@ -64,3 +65,9 @@ unfoldable pub Stored-right : Type 0
 Stored-right =
     (stands : ℕ → List ℕ) (ws : List ℕ) (t : Tree) (z into : List ℕ) → Row-of stands ws t → 2 ≤ length into → length t ≤ room into →
     (spread-fits (squeezed ws ++ z) into ≡ true) × Row-of stands (spread-into (squeezed ws ++ z) into) t × (spread-into (squeezed ws ++ z) ws ≡ ws)
+
+-- All differences, one answer after another, are the marks of the two trees, path by path.
+unfoldable pub Differs-right : Type 0
+Differs-right =
+    (stands : ℕ → List ℕ) (xs ys : List ℕ) (t u : Tree) (n : ℕ) → Row-of stands xs t → Row-of stands ys u → Apart stands xs ys → length t + length u ≤ n →
+    each (shown xs ys) (answers n xs ys (record { old = 0; new = 0 })) ≡ flat (mark t u) (paths (both t u))

@@ -5,7 +5,7 @@ use mathlib.Core.List.{List, [], _∷_, _++_}
 use Prim.Native.Nat.{ℕ, zero, suc, _+_, _*_, _-_, _/_, _%_, _≤_, _<_}
 use lib.Dec.{eqb, ltb, leb}
 use lib.ListN.{length, getD, take, drop}
-use Rattle.pages.specs.Lists.{pick, or, every, any, each, those, same, earlier}
+use Rattle.pages.specs.Lists.{pick, or, every, any, each, those, same, earlier, none-of}
 
 pub record File : Type 0 where
   pub path : List ℕ
@@ -82,3 +82,9 @@ clashes bases ours theirs = those (clash bases ours theirs) (paths (both ours th
 unfoldable pub rising-paths : Tree → Bool
 rising-paths [] = true
 rising-paths (f ∷ fs) = every (λ g. earlier (f .path) (g .path)) fs && rising-paths fs
+
+-- what differs from an older tree at a path: 1 new, 2 changed, 3 gone
+unfoldable pub mark : Tree → Tree → List ℕ → List (List ℕ)
+mark old now p =
+    pick (alike (found old p) (found now p)) []
+    ((pick (none-of (found old p)) 1 (pick (none-of (found now p)) 3 2) ∷ p) ∷ [])

@@ -1,6 +1,6 @@
 // Laws of joining: theorems about the definitions in specs/, each on the contract of a function that does nothing else.
 ghost use Rattle.trees.specs.Laws.{Joined-right, One-side, Files-found, One-tree};
-ghost use Rattle.trees.specs.RowPromises.{Empty-right, Finds-right, Keys-ordered, Puts-right, Same-right, Stored-right, Takes-right};
+ghost use Rattle.trees.specs.RowPromises.{Differs-right, Empty-right, Finds-right, Keys-ordered, Puts-right, Same-right, Stored-right, Takes-right};
 
 // After joining there is at each path what the rule says; a clash is one from either side, and where there is none both sides come to the same.
 pub fn joins_rightly() -> u8
@@ -75,6 +75,13 @@ pub fn same_rows_same_tree() -> u8
 // A row that was stored is spread again as it was.
 pub fn stored_rows_come_back() -> u8
     ensures { λ _. ⌜ Stored-right ⌝ }
+{
+    0
+}
+
+// All differences of two rows are the marks of their trees.
+pub fn differences_are_marks() -> u8
+    ensures { λ _. ⌜ Differs-right ⌝ }
 {
     0
 }
