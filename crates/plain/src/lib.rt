@@ -1,0 +1,3 @@
+// The plain houses, to be run: whole trees, one book of all commits, and what each command shows and leaves.
+pub mod refusal;
+pub mod tree;
