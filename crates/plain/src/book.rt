@@ -112,7 +112,13 @@ impl Book {
         }
     }
 
-    fn spelled(&self, parents: &Vec<usize>, tree: &Tree, stamp: u64, words: &[u8]) -> Result<Vec<u8>, AllocError> {
+    fn spelled(
+        &self,
+        parents: &Vec<usize>,
+        tree: &Tree,
+        stamp: u64,
+        words: &[u8],
+    ) -> Result<Vec<u8>, AllocError> {
         let mut out = Vec::new(self.heap);
         out.extend_from_slice(&in_eight(parents.len() as u64))?;
         for k in parents.iter() {
@@ -125,21 +131,35 @@ impl Book {
     }
 
     // The number of a commit, which is noted unless it is there already.
-    pub fn note(&mut self, parents: Vec<usize>, tree: Tree, stamp: u64, words: Vec<u8>) -> Result<usize, AllocError> {
+    pub fn note(
+        &mut self,
+        parents: Vec<usize>,
+        tree: Tree,
+        stamp: u64,
+        words: Vec<u8>,
+    ) -> Result<usize, AllocError> {
         for (k, old) in self.commits.iter().enumerate() {
-            if old.stamp == stamp && old.parents == parents && old.words == words && old.tree == tree {
+            if old.stamp == stamp
+                && old.parents == parents
+                && old.words == words
+                && old.tree == tree
+            {
                 return Ok(k);
             }
         }
-        let id = sum_of(self.spelled(&parents, &tree, stamp, words.as_slice())?.as_slice());
+        let id = sum_of(
+            self.spelled(&parents, &tree, stamp, words.as_slice())?
+                .as_slice(),
+        );
         let k = self.commits.len();
-        self.commits.push(Commit {
-            parents,
-            tree,
-            stamp,
-            words,
-            id,
-        })?;
+        self.commits
+            .push(Commit {
+                parents,
+                tree,
+                stamp,
+                words,
+                id,
+            })?;
         Ok(k)
     }
 

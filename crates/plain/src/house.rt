@@ -212,7 +212,9 @@ impl House {
     }
 
     fn is_taken(&self, name: &[u8]) -> bool {
-        ref_of(&self.branches, name).is_some() || ref_of(&self.tags, name).is_some() || self.here.as_slice() == name
+        ref_of(&self.branches, name).is_some()
+            || ref_of(&self.tags, name).is_some()
+            || self.here.as_slice() == name
     }
 
     // Our branch at a commit, and its tree in work.
@@ -454,7 +456,12 @@ impl House {
     }
 
     // Branches of another house in place of those that were fetched from it before.
-    fn take_branches(&mut self, heap: Global, from: u8, branches: &Vec<Ref>) -> Result<(), AllocError> {
+    fn take_branches(
+        &mut self,
+        heap: Global,
+        from: u8,
+        branches: &Vec<Ref>,
+    ) -> Result<(), AllocError> {
         let mut others = Vec::new(heap);
         for one in self.others.iter() {
             if one.name.first().copied() != Some(from) {
@@ -515,7 +522,12 @@ fn changed(book: &Book, bases: &Vec<usize>, path: &[u8], row: Option<&[u8]>) -> 
     false
 }
 
-fn join_trees(book: &Book, bases: &Vec<usize>, ours: usize, theirs: usize) -> Result<Joined, AllocError> {
+fn join_trees(
+    book: &Book,
+    bases: &Vec<usize>,
+    ours: usize,
+    theirs: usize,
+) -> Result<Joined, AllocError> {
     let heap = book.heap;
     let base = book.tree_copy(Some(ours))?;
     let other = book.tree_copy(Some(theirs))?;
@@ -607,3 +619,145 @@ fn carry_all(book: &mut Book, at: usize, mine: &Vec<usize>) -> Result<Option<Way
     Ok(Some(way))
 }
 
+// A command that reads or changes what is in work.
+fn asked_of_work(x: &mut House, book: &Book, command: Command<'_>) -> Result<Turn, AllocError> {
+    let heap = book.heap;
+    match command {
+        Command::WriteFile(path, bytes) => x.write_file(heap, path, bytes),
+        Command::DropFile(path) => x.drop_file(heap, path),
+        Command::ReadFile(path) => row_or_none(heap, x.work.find(path)),
+        Command::Status => x.status(book),
+        Command::Settle(path) => x.settle(heap, path),
+        Command::Leave => x.leave(book),
+        _ => Ok(done(heap)),
+    }
+}
+
+// A command about names.
+fn asked_of_names(x: &mut House, book: &Book, command: Command<'_>) -> Result<Turn, AllocError> {
+    let heap = book.heap;
+    match command {
+        Command::Branch(name) => x.name_tip(heap, name, false),
+        Command::Tag(name) => x.name_tip(heap, name, true),
+        Command::Forget(name) => x.forget(heap, name),
+        Command::GoTo(name) => x.go_to(book, name),
+        Command::Join(name) => x.join(book, name),
+        _ => Ok(done(heap)),
+    }
+}
+
+// A command that reads commits.
+fn asked_of_book(x: &House, book: &Book, command: Command<'_>) -> Result<Turn, AllocError> {
+    match command {
+        Command::History => x.history(book),
+        Command::ShowFile(name, path) => row_or_none(book.heap, book.found(x.named(name), path)),
+        Command::Who(path) => x.who(book, path),
+        _ => Ok(done(book.heap)),
+    }
+}
+
+fn asked(x: &mut House, book: &mut Book, command: Command<'_>) -> Result<Turn, AllocError> {
+    match command {
+        Command::Commit(stamp, words) => x.commit(book, stamp, words),
+        Command::MoveOnto(name) => x.move_onto(book, name),
+        Command::Carry(id) => x.carry(book, id),
+        Command::History | Command::ShowFile(..) | Command::Who(..) => asked_of_book(
+            x,
+            book,
+            command,
+        ),
+        Command::Branch(..)
+        | Command::Tag(..)
+        | Command::Forget(..)
+        | Command::GoTo(..)
+        | Command::Join(..) => { asked_of_names(x, book, command) }
+        _ => asked_of_work(x, book, command),
+    }
+}
+
+impl Plain {
+    pub fn new(heap: Global, houses: usize) -> Result<Plain, AllocError> {
+        let mut all = Vec::new(heap);
+        for _ in 0..houses {
+            all.push(House::new(heap)?)?;
+        }
+        Ok(Plain {
+            heap,
+            book: Book::new(heap),
+            houses: all,
+        })
+    }
+
+    fn fetch(&self, x: &mut House, c: usize, from: u64) -> Result<Turn, AllocError> {
+        for (d, other) in self.houses.iter().enumerate() {
+            if d as u64 == from && d != c && from < 256 {
+                x.take_branches(self.heap, from as u8, &other.branches)?;
+                return Ok(done(self.heap));
+            }
+        }
+        Ok(refused(self.heap, 3))
+    }
+
+    fn copy_of(&self, c: usize) -> Result<Option<House>, AllocError> {
+        match self.houses.get(c) {
+            Some(house) => Ok(Some(house.clone()?)),
+            None => Ok(None),
+        }
+    }
+
+    fn set_house(&mut self, c: usize, house: House) {
+        if c < self.houses.len() {
+            self.houses[c] = house;
+        }
+    }
+
+    fn turned(
+        &mut self,
+        x: &mut House,
+        c: usize,
+        command: Command<'_>,
+    ) -> Result<Turn, AllocError> {
+        match command {
+            Command::Fetch(from) => self.fetch(x, c, from),
+            _ => asked(x, &mut self.book, command),
+        }
+    }
+
+    // What the command does at a house, which is changed; a refusal changes nothing.
+    pub fn turn(&mut self, c: usize, command: Command<'_>) -> Result<Turn, AllocError> {
+        let noted = self.book.len();
+        let Some(mut x) = self.copy_of(c)? else {
+            return Ok(refused(self.heap, 3));
+        };
+        let turn = self.turned(&mut x, c, command)?;
+        if turn.reply == 0 {
+            self.set_house(c, x);
+        } else {
+            self.book.commits.truncate(noted);
+        }
+        Ok(turn)
+    }
+
+    // What a turn at a house may change.
+    pub fn past(&self, c: usize) -> Result<Option<Past>, AllocError> {
+        match self.copy_of(c)? {
+            Some(before) => Ok(Some(Past {
+                house: c,
+                noted: self.book.len(),
+                before,
+            })),
+            None => Ok(None),
+        }
+    }
+
+    // As it was before a turn.
+    pub fn undo(&mut self, past: Past) {
+        let Past {
+            house,
+            noted,
+            before,
+        } = past;
+        self.book.commits.truncate(noted);
+        self.set_house(house, before);
+    }
+}

@@ -3,3 +3,4 @@ pub mod book;
 pub mod house;
 pub mod refusal;
 pub mod tree;
+pub mod weight;
