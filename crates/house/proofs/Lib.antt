@@ -4,3 +4,5 @@ pub mod FineLaws
 pub mod CarryLaws
 pub mod MorningLaws
 pub mod Simulation
+pub mod OnTape
+pub mod Nothing

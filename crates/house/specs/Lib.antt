@@ -4,3 +4,6 @@ pub mod Laws
 pub mod Facts
 pub mod Morning
 pub mod Simulation
+pub mod OnTape
+pub mod Client
+pub mod Entry

@@ -8,6 +8,7 @@ use lib.ListN.{length, getD, set}
 use mathlib.Core.Logic.{_⊎_}
 use Rattle.pages.specs.Lists.{pick, or, every, any, each, flat, same, has, so-many, distinct, added-up}
 use Rattle.pages.specs.Bytes.{from-bytes}
+use Rattle.pages.specs.Words.{small}
 use Rattle.pages.specs.Device.{blank, stopped}
 use Rattle.pages.specs.Run.{Engine, Event, on, said, World, Ran, Step, runs}
 use Rattle.history.specs.Book.{Book, Sum, nth, clear, all-files}
@@ -153,13 +154,10 @@ abbrev pub new-world : ℕ → World
 new-world pages = record { device = record { pages = blank pages; queue = [] }; memory = []; up = false }
 
 -- memory is all 0 at the start; it never grows, nor do its numbers beyond 64 bits
-unfoldable pub all-small : List ℕ → Bool
-all-small ms = every (λ m. ltb m 18446744073709551616) ms
-
 unfoldable pub Steady : Engine → Type 0
 Steady e =
     (length (e .start) ≤ 262144) × (every (λ m. eqb m 0) (e .start) ≡ true)
-    × ((m : List ℕ) (ev : Event) → (length (e .step m ev .memory) ≡ length m) × (all-small m ≡ true → all-small (e .step m ev .memory) ≡ true))
+    × ((m : List ℕ) (ev : Event) → (length (e .step m ev .memory) ≡ length m) × (small m ≡ true → small (e .step m ev .memory) ≡ true))
 
 -- for every sum of 32 bytes, up to 16 houses, all devices and all that can happen
 unfoldable pub Whole : (Command → Bool) → (Sum → Engine) → Type 0

@@ -465,7 +465,11 @@ module _ {K : Type 0} (f : Housed K) (law : Lawful f) (n : ℕ) (still : Bool) (
         t,
         laid,
         td,
-        refl, up, s .state, s .memory, l,
+        refl,
+        up,
+        s .state,
+        s .memory,
+        l,
         subst (λ (x : ℕ). End (a .state) (a .memory) h t laid ss x)
             (sym (pick-true (leb 1 (suc reply) && ltb (suc reply) 1000) (suc reply) 1001
             (and-from (leb 1 (suc reply)) (ltb (suc reply) 1000) (le-leb 1 (suc reply) (omega arith)) (lt-ltb (suc reply) 1000 most)))) end,

@@ -292,26 +292,26 @@ tied-heading n q ps h t laid new (c ∷ cs) td up rise inside l s =
 pub tied-new : (n : ℕ) → 1 ≤ n → Tied n true (record { pages = blank (suc n); queue = [] }) (zeros 32) [] 0
 unfolding page-at blank head-page bytes-of zeros elsewhere small in-bytes
 tied-new n h =
-    record
-        { window =
-            record
-                { ring = h
-                ; head-length = refl
-                ; head-small = refl
-                ; tape-length = refl
-                ; tape-small = refl
-                ; bounded = omega arith
-                ; rising = omega arith
-                ; within = omega arith
-                ; room = omega arith
-                }
-        ; pages = length-blank (suc n)
-        ; head = refl
-        ; seen = λ v lo hi. absurd (omega arith)
-        ; head-waits = refl
-        ; waits = λ v lo hi. refl
-        ; stills = λ _ _. refl
-        }
+    record {
+      window =
+          record {
+            ring = h;
+            head-length = refl;
+            head-small = refl;
+            tape-length = refl;
+            tape-small = refl;
+            bounded = omega arith;
+            rising = omega arith;
+            within = omega arith;
+            room = omega arith;
+          };
+      pages = length-blank (suc n);
+      head = refl;
+      seen = λ v lo hi. absurd (omega arith);
+      head-waits = refl;
+      waits = λ v lo hi. refl;
+      stills = λ _ _. refl;
+    }
   where
     length-blank : (k : ℕ) → length (blank k) ≡ k
     length-blank zero = refl

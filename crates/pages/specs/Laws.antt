@@ -26,3 +26,13 @@ Rows-ordered =
     (same xs ys ≡ true → xs ≡ ys) × (same xs xs ≡ true)
     × (earlier xs xs ≡ false) × (earlier xs ys ≡ true → earlier ys zs ≡ true → earlier xs zs ≡ true)
     × ((xs ≡ ys) ⊎ ((earlier xs ys ≡ true) ⊎ (earlier ys xs ≡ true)))
+
+-- The finer law: a byte that all waiting writes to its page leave as it is stays, whatever a stop leaves of them. Pages have 512 bytes.
+unfoldable pub byte-left : ℕ → ℕ → ℕ → List Write → Bool
+byte-left k i b [] = true
+byte-left k i b (q ∷ qs) = pick (eqb (q .at) k) (eqb (length (q .page)) 512 && eqb (getD (q .page) i 0) b) true && byte-left k i b qs
+
+abbrev pub Byte-stays : Type 0
+Byte-stays =
+    (d : Device) (cs : List ℕ) (k i : ℕ) → length (page-at (d .pages) k) ≡ 512 → byte-left k i (getD (page-at (d .pages) k) i 0) (d .queue) ≡ true →
+    getD (page-at (stopped d cs .pages) k) i 0 ≡ getD (page-at (d .pages) k) i 0

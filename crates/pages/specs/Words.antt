@@ -1,4 +1,5 @@
 -- Words of eight bytes, the highest first: a page has 64, a row of words has its bytes. Assumes nothing: these are definitions.
+use mathlib.Core.Path.{_≡_}
 use mathlib.Core.Bool.{Bool, true, false}
 use mathlib.Core.List.{List, [], _∷_, _++_}
 use Prim.Native.Nat.{ℕ, zero, suc, _+_}
@@ -25,3 +26,8 @@ small ws = every (λ w. ltb w 18446744073709551616) ws
 -- new words over old ones, from a place on
 abbrev pub over : ℕ → List ℕ → List ℕ → List ℕ
 over g new old = take g old ++ (new ++ drop (g + length new) old)
+
+-- words out of a page and back undo each other
+abbrev pub Pages-and-words : Type 0
+Pages-and-words =
+    ((ws : List ℕ) → length ws ≡ 64 → small ws ≡ true → page-words (bytes-of ws) ≡ ws) × ((p : Page) → a-page p ≡ true → bytes-of (page-words p) ≡ p)

@@ -3,13 +3,28 @@ ghost use Prim.Native.Nat.{ℕ};
 ghost use mathlib.Core.List.{List};
 ghost use Rattle.pages.specs.Crash.{Rows, Runs-well};
 ghost use Rattle.pages.specs.Device.{Device};
-ghost use Rattle.pages.specs.Laws.{Flushed-stays, Rows-ordered};
+ghost use Rattle.pages.specs.Laws.{Byte-stays, Flushed-stays, Rows-ordered};
 ghost use Rattle.pages.specs.Run.{World};
 ghost use Rattle.pages.specs.Tape.{On-the-device};
+ghost use Rattle.pages.specs.Words.{Pages-and-words};
 
 // What was flushed stays, whatever a stop leaves of later writes to other pages.
 pub fn flushed_stays() -> u8
     ensures { λ _. ⌜ Flushed-stays ⌝ }
+{
+    0
+}
+
+// A byte that all waiting writes to its page leave as it is stays, whatever a stop leaves of them.
+pub fn byte_stays() -> u8
+    ensures { λ _. ⌜ Byte-stays ⌝ }
+{
+    0
+}
+
+// Words out of a page and back undo each other.
+pub fn pages_are_words() -> u8
+    ensures { λ _. ⌜ Pages-and-words ⌝ }
 {
     0
 }
