@@ -95,11 +95,11 @@ fn head_of(heap: Global, text: &[u8]) -> Result<Option<Head>, AllocError> {
     Ok(Some(head))
 }
 
-// Where a colon and a space stand.
-fn colon(line: &[u8]) -> Option<usize> {
-    for (i, pair) in line.windows(2).enumerate() {
-        if pair == b": " {
-            return Some(i);
+// What stands before a colon and a space, and behind them.
+fn cut_colon(line: &[u8]) -> Option<(&[u8], &[u8])> {
+    for i in 0..line.len() {
+        if i + 1 < line.len() && line[i] == b':' && line[i + 1] == b' ' {
+            return Some((&line[0..i], &line[i + 2..line.len()]));
         }
     }
     None
@@ -117,13 +117,10 @@ fn item_of(heap: Global, line: &[u8]) -> Result<Option<Item>, AllocError> {
             None => Ok(None),
         };
     }
-    let Some(at) = colon(line) else {
+    let Some((front, behind)) = cut_colon(line) else {
         return Ok(None);
     };
-    let Some(behind) = line.get(at + 2..line.len()) else {
-        return Ok(None);
-    };
-    let (Some(head), Some(text)) = (head_of(heap, &line[0..at])?, said(heap, behind)?) else {
+    let (Some(head), Some(text)) = (head_of(heap, front)?, said(heap, behind)?) else {
         return Ok(None);
     };
     Ok(Some(Item {

@@ -1,5 +1,4 @@
 // A house run act by act beside its device and, for a fetch, another house.
-use crate::bench::Answer;
 use crate::device::Device;
 use crate::engine;
 use crate::engine::Kind;
@@ -21,6 +20,13 @@ pub const FAULT: u64 = 1001;
 const REPLY_ACTS: u64 = 16777216;
 
 pub const MOST_ACTS: u64 = 1 << 32;
+
+// How a command ended, and what it showed.
+#[derive(Clone, PartialEq, Drop)]
+pub struct Answer {
+    pub end: u64,
+    pub rows: Vec<Vec<u8>>,
+}
 
 #[derive(Drop)]
 pub struct World {

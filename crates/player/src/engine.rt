@@ -1,5 +1,4 @@
 // The house under test.
-use commands::parse;
 use pages::told::Told;
 
 #[derive(Clone, Copy, PartialEq)]
@@ -15,12 +14,17 @@ pub enum Kind {
 // Which commands the house knows, by their kinds; a command that is not known is refused with 2.
 pub const KNOWN: [bool; 20] = [false; 20];
 
-pub fn step(_memory: &mut [u64], kind: Kind, bytes: &[u8], _out: &mut [u8]) -> Told {
-    match kind {
-        Kind::Power => Told::Done,
-        Kind::Command => Told::No(if parse(bytes).is_some() { 2 } else { 1 }),
-        _ => Told::No(1),
-    }
+// One step of the house: what the world tells is taken in, and one act is told.
+pub fn step(memory: &mut [u64], kind: Kind, bytes: &[u8], out: &mut [u8]) -> Told {
+    let number = match kind {
+        Kind::Power => 0,
+        Kind::Command => 1,
+        Kind::Page => 2,
+        Kind::GoOn => 3,
+        Kind::Letter => 4,
+        Kind::NoLine => 5,
+    };
+    house::step(memory, number, bytes, out)
 }
 
 // Whether the house knows the command that a text spells.

@@ -1,11 +1,17 @@
 // Random days from a seed.
+ghost use Prim.Native.Nat.{_<_};
 use crate::day::Item;
 use crate::day::LONG_LINE;
 use crate::day::Stop;
 use crate::day::What;
 use crate::device::Left;
 use crate::engine::KNOWN;
+use crate::text::fetch;
+use crate::text::history;
+use crate::text::leave;
 use crate::text::spelled;
+use crate::text::status;
+use crate::text::sweep;
 use commands::Command;
 use plain::house::Plain;
 use std::alloc::AllocError;
@@ -30,7 +36,9 @@ impl Dice {
     }
 
     // A number below n; 0 where n is 0.
-    pub fn below(&mut self, n: u64) -> u64 {
+    pub fn below(&mut self, n: u64) -> u64
+        ensures { λ r. ⌜ (0 < n → r < n) ⌝ }
+    {
         if n == 0 { 0 } else { self.next() % n }
     }
 }
@@ -113,15 +121,15 @@ fn small(heap: Global, dice: &mut Dice, k: u64) -> Result<Option<Vec<u8>>, Alloc
         2 => spelled(heap, Command::DropFile(path(dice))),
         4 => spelled(heap, Command::Branch(name(dice))),
         5 => spelled(heap, Command::GoTo(name(dice))),
-        6 => spelled(heap, Command::History),
-        8 => spelled(heap, Command::Status),
         9 => spelled(heap, Command::ReadFile(path(dice))),
         11 => spelled(heap, Command::Settle(path(dice))),
-        12 => spelled(heap, Command::Leave),
         15 => spelled(heap, Command::Forget(name(dice))),
         16 => spelled(heap, Command::Tag(name(dice))),
         17 => spelled(heap, Command::Who(path(dice))),
-        18 => spelled(heap, Command::Sweep),
+        6 => spelled(heap, history()),
+        8 => spelled(heap, status()),
+        12 => spelled(heap, leave()),
+        18 => spelled(heap, sweep()),
         _ => Ok(None),
     }
 }
@@ -151,7 +159,7 @@ fn command(heap: Global, dice: &mut Dice, plain: &Plain, k: u64) -> Result<Vec<u
             Command::MoveOnto(far_name(heap, dice, houses)?.as_slice()),
         )?,
         14 => spelled(heap, Command::Carry(id(heap, dice, plain)?.as_slice()))?,
-        19 => spelled(heap, Command::Fetch(dice.below(houses.saturating_add(1))))?,
+        19 => spelled(heap, fetch(dice.below(houses.saturating_add(1))))?,
         _ => small(heap, dice, k)?,
     };
     match text {

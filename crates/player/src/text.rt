@@ -209,6 +209,26 @@ pub fn spelled(heap: Global, command: Command<'_>) -> Result<Option<Vec<u8>>, Al
     }
 }
 
+pub fn history<'a>() -> Command<'a> {
+    Command::History
+}
+
+pub fn status<'a>() -> Command<'a> {
+    Command::Status
+}
+
+pub fn leave<'a>() -> Command<'a> {
+    Command::Leave
+}
+
+pub fn sweep<'a>() -> Command<'a> {
+    Command::Sweep
+}
+
+pub fn fetch<'a>(house: u64) -> Command<'a> {
+    Command::Fetch(house)
+}
+
 // Which command one word, or two, stand for, with what is behind them.
 #[derive(Drop)]
 struct Pieces {
