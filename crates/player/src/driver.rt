@@ -46,6 +46,8 @@ pub struct Run {
     pub end: u64,
     // whether the last act changed what the device keeps or what waits
     pub touched: bool,
+    // whether nothing was done yet
+    pub is_new: bool,
 }
 
 // The front of a row.
@@ -91,6 +93,7 @@ impl Run {
             showed: Vec::new(heap),
             end: RUNNING,
             touched: false,
+            is_new: true,
         })
     }
 
@@ -148,6 +151,7 @@ impl Run {
         there: &mut World,
     ) -> Result<(), AllocError> {
         let told = self.step(here);
+        self.is_new = false;
         self.touched = matches!(told, Told::Write(_) | Told::Flush);
         match told {
             Told::Read(at) => {

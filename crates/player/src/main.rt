@@ -1,3 +1,4 @@
+mod bench;
 mod day;
 mod device;
 mod driver;
