@@ -132,6 +132,17 @@ fn drive(
     Ok(most)
 }
 
+// A run to its end at a house without line.
+fn finish(heap: Global, mut run: Run, here: &mut World) -> Result<Answer, AllocError> {
+    let mut nobody = World::new(heap, 0)?;
+    drive(heap, &mut run, here, NOBODY, &mut nobody, MOST_ACTS)?;
+    run.answer()
+}
+
+fn ask(heap: Global, text: &[u8], here: &mut World) -> Result<Answer, AllocError> {
+    finish(heap, Run::command(heap, text, 0)?, here)
+}
+
 // A few rows, to be printed.
 fn put_answer(heap: Global, out: &mut String, answer: &Answer) -> Result<(), AllocError> {
     put_number(heap, out, answer.end)?;
@@ -356,26 +367,19 @@ impl Bench {
         Ok(all)
     }
 
+    // A house without line that has power from now on, and how the coming of power ends.
+    fn start(&self, c: usize, world: &mut World) -> Result<Answer, AllocError> {
+        world.wake(self.heap)?;
+        finish(self.heap, Run::power(self.heap, c, self.houses, self.pages)?, world)
+    }
+
     // What a house answers that starts on these pages: how the coming of power ends, and then each query.
-    fn house_answers(
-        &self,
-        c: usize,
-        device: Device,
-        queries: &Vec<Vec<u8>>,
-    ) -> Result<Vec<Answer>, AllocError> {
-        let heap = self.heap;
-        let mut world = World::new(heap, 0)?;
-        let mut nobody = World::new(heap, 0)?;
-        world.device = device;
-        world.wake(heap)?;
-        let mut all = Vec::new(heap);
-        let mut run = Run::power(heap, c, self.houses, self.pages)?;
-        drive(heap, &mut run, &mut world, NOBODY, &mut nobody, MOST_ACTS)?;
-        all.push(run.answer()?)?;
+    fn house_answers(&self, c: usize, device: Device, queries: &Vec<Vec<u8>>) -> Result<Vec<Answer>, AllocError> {
+        let mut world = World::on(self.heap, device);
+        let mut all = Vec::new(self.heap);
+        all.push(self.start(c, &mut world)?)?;
         for text in queries.iter() {
-            let mut run = Run::command(heap, text.as_slice(), 0)?;
-            drive(heap, &mut run, &mut world, NOBODY, &mut nobody, MOST_ACTS)?;
-            all.push(run.answer()?)?;
+            all.push(ask(self.heap, text.as_slice(), &mut world)?)?;
         }
         Ok(all)
     }
@@ -400,61 +404,51 @@ impl Bench {
 
     // Power comes; what differs, if anything does.
     fn power(&mut self, c: usize) -> Result<Option<String>, AllocError> {
-        let mut run = Run::power(self.heap, c, self.houses, self.pages)?;
         let mut here = self.take(c)?;
-        here.wake(self.heap)?;
+        let got = self.start(c, &mut here)?;
         self.put(c, here);
-        self.drive(&mut run, c, NOBODY, MOST_ACTS)?;
         self.counts.powers = one_more(self.counts.powers);
-        let got = run.answer()?;
-        let wanted = no_rows(self.heap, 0);
-        if got != wanted {
-            return Ok(Some(trouble(self.heap, "power", &got, &wanted)?));
+        if got.end == 0 && got.rows.is_empty() {
+            return Ok(None);
         }
-        Ok(None)
+        Ok(Some(trouble(self.heap, "power", &got, &no_rows(self.heap, 0))?))
+    }
+
+    // How far power comes in so many acts.
+    fn start_some(&self, c: usize, world: &mut World, acts: u64) -> Result<Answer, AllocError> {
+        world.wake(self.heap)?;
+        let mut nobody = World::new(self.heap, 0)?;
+        let mut run = Run::power(self.heap, c, self.houses, self.pages)?;
+        drive(self.heap, &mut run, world, NOBODY, &mut nobody, acts)?;
+        run.answer()
     }
 
     // Power stops while it comes.
     fn power_stops(&mut self, c: usize, stop: &Stop) -> Result<Option<String>, AllocError> {
-        let mut run = Run::power(self.heap, c, self.houses, self.pages)?;
         let mut here = self.take(c)?;
-        let mut nobody = World::new(self.heap, 0)?;
-        here.wake(self.heap)?;
-        drive(
-            self.heap,
-            &mut run,
-            &mut here,
-            NOBODY,
-            &mut nobody,
-            stop.acts,
-        )?;
-        here.device.stop(stop.left.as_slice());
-        here.go_dark(self.heap);
+        let got = self.start_some(c, &mut here, stop.acts)?;
+        here.stop(self.heap, stop.left.as_slice());
         self.put(c, here);
         self.counts.stops = one_more(self.counts.stops);
-        let got = run.answer()?;
-        if (got.end != 0 && got.end != RUNNING) || !got.rows.is_empty() {
-            return Ok(Some(
-                trouble(
-                    self.heap,
-                    "power that stops",
-                    &got,
-                    &no_rows(self.heap, RUNNING),
-                )?,
-            ));
+        if (got.end == 0 || got.end == RUNNING) && got.rows.is_empty() {
+            return Ok(None);
         }
-        Ok(None)
+        Ok(Some(trouble(self.heap, "power that stops", &got, &no_rows(self.heap, RUNNING))?))
     }
 
     // A whole command.
     fn said(&mut self, c: usize, text: &[u8], letters: u64) -> Result<Option<String>, AllocError> {
-        let past = self.plain.past(c)?;
-        let expected = self.expect(c, text, letters)?;
         let mut run = Run::command(self.heap, text, letters)?;
         self.drive(&mut run, c, peer_of(c, text), MOST_ACTS)?;
-        let got = run.answer()?;
+        self.compare(c, text, letters, &run.answer()?)
+    }
+
+    // An answer beside what the plain house does, which is changed.
+    fn compare(&mut self, c: usize, text: &[u8], letters: u64, got: &Answer) -> Result<Option<String>, AllocError> {
         self.counts.ended(got.end);
-        self.judge(&got, &expected, past)
+        let past = self.plain.past(c)?;
+        let expected = self.expect(c, text, letters)?;
+        self.judge(got, &expected, past)
     }
 
     // Whether an answer is as expected; where the line fell short, nothing has changed.
@@ -469,25 +463,24 @@ impl Bench {
         Ok(Some(trouble(self.heap, "command", got, &expected.answer)?))
     }
 
-    // A command in which power stops: what is kept then is as before or as after it, and as after it if it had ended.
-    fn stops(
-        &mut self,
-        c: usize,
-        text: &[u8],
-        letters: u64,
-        stop: &Stop,
-    ) -> Result<Option<String>, AllocError> {
-        let outlook = self.outlook(c, text, letters)?;
-        let mut run = Run::command(self.heap, text, letters)?;
-        self.drive(&mut run, c, peer_of(c, text), stop.acts)?;
+    // So many acts of a run, and then the stop; what is on the device then.
+    fn cut_off(&mut self, c: usize, peer: u64, run: &mut Run, stop: &Stop) -> Result<Device, AllocError> {
+        self.drive(run, c, peer, stop.acts)?;
         let mut here = self.take(c)?;
-        here.device.stop(stop.left.as_slice());
-        here.go_dark(self.heap);
+        here.stop(self.heap, stop.left.as_slice());
         let device = here.device.clone()?;
         self.put(c, here);
+        Ok(device)
+    }
+
+    // A command in which power stops: what is kept then is as before or as after it, and as after it if it had ended.
+    fn stops(&mut self, c: usize, text: &[u8], letters: u64, stop: &Stop) -> Result<Option<String>, AllocError> {
+        let outlook = self.outlook(c, text, letters)?;
+        let mut run = Run::command(self.heap, text, letters)?;
+        let device = self.cut_off(c, peer_of(c, text), &mut run, stop)?;
         let seen = self.seen(c, device, &outlook, &run)?;
         if seen.new {
-            self.expect(c, text, letters)?;
+            self.right_answer(c, text)?;
         }
         Ok(seen.trouble)
     }
@@ -551,21 +544,21 @@ impl Bench {
     // A whole command, and before it every stop in it.
     pub fn every_stop(&mut self, c: usize, text: &[u8], letters: u64, dice: &mut Dice) -> Result<Option<String>, AllocError> {
         let outlook = self.outlook(c, text, letters)?;
-        let peer = peer_of(c, text);
-        let mut here = self.take(c)?;
-        let mut there = self.take(peer as usize)?;
         let mut run = Run::command(self.heap, text, letters)?;
-        let found = self.walk(Place { c, peer }, &mut run, &mut here, &mut there, &outlook, dice)?;
-        self.put(c, here);
-        self.put(peer as usize, there);
+        let found = self.walk_at(Place { c, peer: peer_of(c, text) }, &mut run, &outlook, dice)?;
         if found.is_some() {
             return Ok(found);
         }
-        let past = self.plain.past(c)?;
-        let expected = self.expect(c, text, letters)?;
-        let got = run.answer()?;
-        self.counts.ended(got.end);
-        self.judge(&got, &expected, past)
+        self.compare(c, text, letters, &run.answer()?)
+    }
+
+    fn walk_at(&mut self, at: Place, run: &mut Run, outlook: &Outlook, dice: &mut Dice) -> Result<Option<String>, AllocError> {
+        let mut here = self.take(at.c)?;
+        let mut there = self.take(at.peer as usize)?;
+        let found = self.walk(at, run, &mut here, &mut there, outlook, dice)?;
+        self.put(at.c, here);
+        self.put(at.peer as usize, there);
+        Ok(found)
     }
 
     // The acts of a command, with a stop at the start, and after each act that changed the pages, and at its end: with all that the stop may

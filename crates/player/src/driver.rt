@@ -1,5 +1,6 @@
 // A house run act by act beside its device and, for a fetch, another house.
 use crate::device::Device;
+use crate::device::Left;
 use crate::engine;
 use crate::engine::Kind;
 use pages::bytes::in_eight;
@@ -76,8 +77,18 @@ impl World {
         Ok(())
     }
 
-    // Power is gone, and memory with it; what was left of the waiting writes is for the device to say.
-    pub fn go_dark(&mut self, heap: Global) {
+    // A house that is to start on these pages.
+    pub fn on(heap: Global, device: Device) -> World {
+        World {
+            device,
+            memory: Vec::new(heap),
+            up: false,
+        }
+    }
+
+    // Power is gone, and memory with it; of the waiting writes so much is left.
+    pub fn stop(&mut self, heap: Global, left: &[Left]) {
+        self.device.stop(left);
         self.memory = Vec::new(heap);
         self.up = false;
     }
