@@ -37,6 +37,7 @@ pub struct Day {
     pub houses: usize,
     pub pages: usize,
     pub items: Vec<Item>,
+    pub bad_lines: u64,
 }
 
 // What a line of a day says, apart from its command.
@@ -178,6 +179,7 @@ impl Day {
             houses: 2,
             pages: 64,
             items: Vec::new(heap),
+            bad_lines: 0,
         }
     }
 
@@ -207,14 +209,14 @@ impl Day {
         }
     }
 
-    // A day from its text; or the number of the first line that is none.
-    pub fn read(heap: Global, text: &str) -> Result<Result<Day, usize>, AllocError> {
+    // A day from its text; how many lines are none of a day is counted.
+    pub fn read(heap: Global, text: &str) -> Result<Day, AllocError> {
         let mut day = Day::new(heap);
-        for (i, line) in text.lines().enumerate() {
+        for line in text.lines() {
             if !day.take_line(heap, line.as_bytes())? {
-                return Ok(Err(i));
+                day.bad_lines = day.bad_lines.saturating_add(1);
             }
         }
-        Ok(Ok(day))
+        Ok(day)
     }
 }
