@@ -1,4 +1,7 @@
 // Files by rising path, and how two trees are put together.
+ghost use mathlib.Core.Path.{_≡_};
+ghost use Rattle.plain.specs.Sides.{Meets, rows};
+ghost use Rattle.trees.specs.Tree.{alike};
 use std::alloc::AllocError;
 use std::alloc::Global;
 
@@ -28,7 +31,9 @@ pub struct Met<'a> {
 }
 
 // Whether two sides have the same at a path: nothing, or the same bytes.
-pub fn alike(here: Option<&[u8]>, there: Option<&[u8]>) -> bool {
+pub fn alike(here: Option<&[u8]>, there: Option<&[u8]>) -> bool
+    ensures { λ r. ⌜ r ≡ alike (rows (here .entry)) (rows (there .entry)) ⌝ }
+{
     match (here, there) {
         (None, None) => true,
         (Some(a), Some(b)) => a == b,
@@ -42,11 +47,25 @@ pub fn meet<'a>(
     theirs: Option<&'a [u8]>,
     ours_changed: bool,
     theirs_changed: bool,
-) -> Met<'a> {
-    let same = alike(ours, theirs);
-    let clash = !same && ours_changed && theirs_changed;
-    let row = if same || ours_changed { ours } else { theirs };
-    Met { clash, row }
+) -> Met<'a>
+    ensures { λ r. ⌜ Meets (rows (ours .entry)) (rows (theirs .entry)) «ours_changed» «theirs_changed» (r .clash) (rows (r .row)) ⌝ }
+{
+    if alike(ours, theirs) {
+        return Met {
+            clash: false,
+            row: ours,
+        };
+    }
+    if ours_changed {
+        return Met {
+            clash: theirs_changed,
+            row: ours,
+        };
+    }
+    Met {
+        clash: false,
+        row: theirs,
+    }
 }
 
 impl Tree {

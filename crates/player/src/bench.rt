@@ -165,7 +165,12 @@ fn trouble(heap: Global, what: &str, house: &Answer, plain: &Answer) -> Result<S
 }
 
 // The first place where answers differ.
-fn first_trouble(heap: Global, what: &str, got: &Vec<Answer>, wanted: &Vec<Answer>) -> Result<String, AllocError> {
+fn first_trouble(
+    heap: Global,
+    what: &str,
+    got: &Vec<Answer>,
+    wanted: &Vec<Answer>,
+) -> Result<String, AllocError> {
     for (a, b) in got.iter().zip(wanted.iter()) {
         if *a != *b {
             return trouble(heap, what, a, b);
@@ -174,8 +179,18 @@ fn first_trouble(heap: Global, what: &str, got: &Vec<Answer>, wanted: &Vec<Answe
     String::from_str(heap, what)
 }
 
-fn difference(heap: Global, got: &Vec<Answer>, outlook: &Outlook, may_be_old: bool) -> Result<String, AllocError> {
-    let mut text = first_trouble(heap, "after a stop, held to after the command", got, &outlook.new)?;
+fn difference(
+    heap: Global,
+    got: &Vec<Answer>,
+    outlook: &Outlook,
+    may_be_old: bool,
+) -> Result<String, AllocError> {
+    let mut text = first_trouble(
+        heap,
+        "after a stop, held to after the command",
+        got,
+        &outlook.new,
+    )?;
     if may_be_old {
         text.push_str("; ")?;
         text.push_str(first_trouble(heap, "held to before it", got, &outlook.old)?.as_str())?;
@@ -370,11 +385,20 @@ impl Bench {
     // A house without line that has power from now on, and how the coming of power ends.
     fn start(&self, c: usize, world: &mut World) -> Result<Answer, AllocError> {
         world.wake(self.heap)?;
-        finish(self.heap, Run::power(self.heap, c, self.houses, self.pages)?, world)
+        finish(
+            self.heap,
+            Run::power(self.heap, c, self.houses, self.pages)?,
+            world,
+        )
     }
 
     // What a house answers that starts on these pages: how the coming of power ends, and then each query.
-    fn house_answers(&self, c: usize, device: Device, queries: &Vec<Vec<u8>>) -> Result<Vec<Answer>, AllocError> {
+    fn house_answers(
+        &self,
+        c: usize,
+        device: Device,
+        queries: &Vec<Vec<u8>>,
+    ) -> Result<Vec<Answer>, AllocError> {
         let mut world = World::on(self.heap, device);
         let mut all = Vec::new(self.heap);
         all.push(self.start(c, &mut world)?)?;
@@ -433,7 +457,14 @@ impl Bench {
         if (got.end == 0 || got.end == RUNNING) && got.rows.is_empty() {
             return Ok(None);
         }
-        Ok(Some(trouble(self.heap, "power that stops", &got, &no_rows(self.heap, RUNNING))?))
+        Ok(Some(
+            trouble(
+                self.heap,
+                "power that stops",
+                &got,
+                &no_rows(self.heap, RUNNING),
+            )?,
+        ))
     }
 
     // A whole command.
@@ -444,7 +475,13 @@ impl Bench {
     }
 
     // An answer beside what the plain house does, which is changed.
-    fn compare(&mut self, c: usize, text: &[u8], letters: u64, got: &Answer) -> Result<Option<String>, AllocError> {
+    fn compare(
+        &mut self,
+        c: usize,
+        text: &[u8],
+        letters: u64,
+        got: &Answer,
+    ) -> Result<Option<String>, AllocError> {
         self.counts.ended(got.end);
         let past = self.plain.past(c)?;
         let expected = self.expect(c, text, letters)?;
@@ -452,7 +489,12 @@ impl Bench {
     }
 
     // Whether an answer is as expected; where the line fell short, nothing has changed.
-    fn judge(&mut self, got: &Answer, expected: &Expected, past: Option<Past>) -> Result<Option<String>, AllocError> {
+    fn judge(
+        &mut self,
+        got: &Answer,
+        expected: &Expected,
+        past: Option<Past>,
+    ) -> Result<Option<String>, AllocError> {
         if got.end == 9 && got.rows.is_empty() && expected.may_lack_line {
             self.undo(past);
             return Ok(None);
@@ -464,7 +506,13 @@ impl Bench {
     }
 
     // So many acts of a run, and then the stop; what is on the device then.
-    fn cut_off(&mut self, c: usize, peer: u64, run: &mut Run, stop: &Stop) -> Result<Device, AllocError> {
+    fn cut_off(
+        &mut self,
+        c: usize,
+        peer: u64,
+        run: &mut Run,
+        stop: &Stop,
+    ) -> Result<Device, AllocError> {
         self.drive(run, c, peer, stop.acts)?;
         let mut here = self.take(c)?;
         here.stop(self.heap, stop.left.as_slice());
@@ -474,7 +522,13 @@ impl Bench {
     }
 
     // A command in which power stops: what is kept then is as before or as after it, and as after it if it had ended.
-    fn stops(&mut self, c: usize, text: &[u8], letters: u64, stop: &Stop) -> Result<Option<String>, AllocError> {
+    fn stops(
+        &mut self,
+        c: usize,
+        text: &[u8],
+        letters: u64,
+        stop: &Stop,
+    ) -> Result<Option<String>, AllocError> {
         let outlook = self.outlook(c, text, letters)?;
         let mut run = Run::command(self.heap, text, letters)?;
         let device = self.cut_off(c, peer_of(c, text), &mut run, stop)?;
@@ -486,13 +540,21 @@ impl Bench {
     }
 
     // What a house shows that starts on what a stop left: whether that is as after the command, and what differs.
-    fn seen(&mut self, c: usize, device: Device, outlook: &Outlook, run: &Run) -> Result<Seen, AllocError> {
+    fn seen(
+        &mut self,
+        c: usize,
+        device: Device,
+        outlook: &Outlook,
+        run: &Run,
+    ) -> Result<Seen, AllocError> {
         self.counts.stops = one_more(self.counts.stops);
         let got = self.house_answers(c, device, &outlook.queries)?;
         let end = run.answer()?;
         let lacked = end.end == 9 && outlook.expected.may_lack_line;
         if end.end != RUNNING && !lacked && end != outlook.expected.answer {
-            return seen_trouble(trouble(self.heap, "before a stop", &end, &outlook.expected.answer)?);
+            return seen_trouble(
+                trouble(self.heap, "before a stop", &end, &outlook.expected.answer)?,
+            );
         }
         let may_be_old = end.end == RUNNING || lacked;
         if may_be_old && got == outlook.old {
@@ -517,7 +579,13 @@ impl Bench {
         }
     }
 
-    fn play_said(&mut self, c: usize, text: &[u8], letters: u64, stop: &Option<Stop>) -> Result<Option<String>, AllocError> {
+    fn play_said(
+        &mut self,
+        c: usize,
+        text: &[u8],
+        letters: u64,
+        stop: &Option<Stop>,
+    ) -> Result<Option<String>, AllocError> {
         match stop {
             None => self.said(c, text, letters),
             Some(stop) => self.stops(c, text, letters, stop),
@@ -528,7 +596,12 @@ impl Bench {
     pub fn play(&mut self, item: &Item) -> Result<Option<String>, AllocError> {
         match &item.what {
             What::Power => self.play_power(item.house, &item.stop),
-            What::Said(text, letters) => self.play_said(item.house, text.as_slice(), *letters, &item.stop),
+            What::Said(text, letters) => self.play_said(
+                item.house,
+                text.as_slice(),
+                *letters,
+                &item.stop,
+            ),
         }
     }
 
@@ -542,17 +615,37 @@ impl Bench {
     }
 
     // A whole command, and before it every stop in it.
-    pub fn every_stop(&mut self, c: usize, text: &[u8], letters: u64, dice: &mut Dice) -> Result<Option<String>, AllocError> {
+    pub fn every_stop(
+        &mut self,
+        c: usize,
+        text: &[u8],
+        letters: u64,
+        dice: &mut Dice,
+    ) -> Result<Option<String>, AllocError> {
         let outlook = self.outlook(c, text, letters)?;
         let mut run = Run::command(self.heap, text, letters)?;
-        let found = self.walk_at(Place { c, peer: peer_of(c, text) }, &mut run, &outlook, dice)?;
+        let found = self.walk_at(
+            Place {
+                c,
+                peer: peer_of(c, text),
+            },
+            &mut run,
+            &outlook,
+            dice,
+        )?;
         if found.is_some() {
             return Ok(found);
         }
         self.compare(c, text, letters, &run.answer()?)
     }
 
-    fn walk_at(&mut self, at: Place, run: &mut Run, outlook: &Outlook, dice: &mut Dice) -> Result<Option<String>, AllocError> {
+    fn walk_at(
+        &mut self,
+        at: Place,
+        run: &mut Run,
+        outlook: &Outlook,
+        dice: &mut Dice,
+    ) -> Result<Option<String>, AllocError> {
         let mut here = self.take(at.c)?;
         let mut there = self.take(at.peer as usize)?;
         let found = self.walk(at, run, &mut here, &mut there, outlook, dice)?;
@@ -563,7 +656,15 @@ impl Bench {
 
     // The acts of a command, with a stop at the start, and after each act that changed the pages, and at its end: with all that the stop may
     // leave where that is little, and with some of it where it is much.
-    fn walk(&mut self, at: Place, run: &mut Run, here: &mut World, there: &mut World, outlook: &Outlook, dice: &mut Dice) -> Result<Option<String>, AllocError> {
+    fn walk(
+        &mut self,
+        at: Place,
+        run: &mut Run,
+        here: &mut World,
+        there: &mut World,
+        outlook: &Outlook,
+        dice: &mut Dice,
+    ) -> Result<Option<String>, AllocError> {
         for _ in 0..MOST_ACTS {
             if run.touched || run.is_new || run.end != RUNNING {
                 let found = self.all_left(at.c, &here.device, outlook, run, dice)?;
@@ -580,7 +681,14 @@ impl Bench {
     }
 
     // All, or some, of what a stop may leave of the waiting writes.
-    fn all_left(&mut self, c: usize, device: &Device, outlook: &Outlook, run: &Run, dice: &mut Dice) -> Result<Option<String>, AllocError> {
+    fn all_left(
+        &mut self,
+        c: usize,
+        device: &Device,
+        outlook: &Outlook,
+        run: &Run,
+        dice: &mut Dice,
+    ) -> Result<Option<String>, AllocError> {
         let waiting = device.waiting();
         for i in 0..outcomes(waiting) {
             let seed = if waiting <= 5 { i } else { dice.next() };
@@ -593,7 +701,14 @@ impl Bench {
         Ok(None)
     }
 
-    fn seen_with(&mut self, c: usize, device: &Device, left: Vec<Left>, outlook: &Outlook, run: &Run) -> Result<Seen, AllocError> {
+    fn seen_with(
+        &mut self,
+        c: usize,
+        device: &Device,
+        left: Vec<Left>,
+        outlook: &Outlook,
+        run: &Run,
+    ) -> Result<Seen, AllocError> {
         let mut copy = device.clone()?;
         copy.stop(left.as_slice());
         self.seen(c, copy, outlook, run)

@@ -105,7 +105,12 @@ fn read_day(rt: &LibcRuntime, file: &str) -> Result<Day, AnyError> {
     Ok(day)
 }
 
-fn print_plain(rt: &LibcRuntime, plain: &mut Plain, house: usize, text: &[u8]) -> Result<(), AnyError> {
+fn print_plain(
+    rt: &LibcRuntime,
+    plain: &mut Plain,
+    house: usize,
+    text: &[u8],
+) -> Result<(), AnyError> {
     let Some(command) = parse(text) else {
         println!(rt, "    refused 1")?;
         return Ok(());
@@ -149,7 +154,12 @@ fn print_trouble(
 }
 
 // One item of a day that was read, at the houses; with every stop where that is wanted.
-fn play_item(bench: &mut Bench, item: &Item, stops: bool, dice: &mut Dice) -> Result<Option<String>, AllocError> {
+fn play_item(
+    bench: &mut Bench,
+    item: &Item,
+    stops: bool,
+    dice: &mut Dice,
+) -> Result<Option<String>, AllocError> {
     match &item.what {
         What::Said(text, letters) => {
             if stops && item.stop.is_none() {
@@ -163,11 +173,23 @@ fn play_item(bench: &mut Bench, item: &Item, stops: bool, dice: &mut Dice) -> Re
 }
 
 // Plays the items of a day; whether the houses agree.
-fn play_items(rt: &LibcRuntime, bench: &mut Bench, file: &str, day: &Day, stops: bool) -> Result<bool, AnyError> {
+fn play_items(
+    rt: &LibcRuntime,
+    bench: &mut Bench,
+    file: &str,
+    day: &Day,
+    stops: bool,
+) -> Result<bool, AnyError> {
     let mut dice = Dice::new(1);
     for (i, item) in day.items.iter().enumerate() {
         if !bench.is_proper(item) {
-            print_trouble(rt, file, i, item, "power comes where there is none, and a command is said where there is")?;
+            print_trouble(
+                rt,
+                file,
+                i,
+                item,
+                "power comes where there is none, and a command is said where there is",
+            )?;
             return Ok(false);
         }
         if let Some(text) = play_item(bench, item, stops, &mut dice)? {
@@ -213,7 +235,13 @@ fn next_item(
 }
 
 // One item of a random day; whether the houses agree.
-fn play_one(rt: &LibcRuntime, bench: &mut Bench, seed: u64, i: usize, item: &Item) -> Result<bool, AnyError> {
+fn play_one(
+    rt: &LibcRuntime,
+    bench: &mut Bench,
+    seed: u64,
+    i: usize,
+    item: &Item,
+) -> Result<bool, AnyError> {
     let Some(text) = bench.play(item)? else {
         return Ok(true);
     };
