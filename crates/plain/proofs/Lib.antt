@@ -1,0 +1,2 @@
+pub mod ReplyLaws
+pub mod SideLaws
