@@ -1,5 +1,5 @@
 -- From a derivation that a run goes well to the run itself: it ends well, and may be stopped anywhere. Assumes nothing.
-use Rattle.std.proofs.Common.{◌≡◌, ℕ, zero, suc, Bool, true, false, ◌⊎◌, List, [], ◌∷◌, ◌++◌, sym, refl, ap, ◌∙◌, subst, inl, inr}
+use Rattle.std.proofs.Common.{◌≡◌, ℕ, zero, suc, Bool, true, ◌⊎◌, List, [], ◌∷◌, ◌++◌, sym, refl, ap, ◌∙◌, subst, inl, inr}
 use Rattle.pages.specs.Lists.{pick}
 use Rattle.pages.specs.Device.{Device, Page, read_page, flushed}
 use Rattle.pages.specs.Run.{Engine, Event, page, next, Act, read, write, flush, shows, done, refused, Step, World, Ran, ran, in_memory, on_device, queued, writable, refusal_end, replies, one_act, runs}

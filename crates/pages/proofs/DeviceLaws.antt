@@ -3,7 +3,7 @@ use Rattle.std.proofs.Common.{◌≡◌, ℕ, zero, suc, ◌+◌, ◌-◌, ◌<�
 use Rattle.std.proofs.lemmas.List.{length-take-le, get_or-take, get_or-drop, get_or_append_left, get_or-append_right}
 use Rattle.std.proofs.lemmas.Bool.{eqb-true, eqb-false, eq-eqb, and_parts, cases_lt, false≢true}
 use Rattle.pages.specs.Lists.{pick}
-use Rattle.pages.specs.Device.{Device, Write, Page, page_at, set_page, all_written, left, half, flushed, read_page}
+use Rattle.pages.specs.Device.{Write, Page, page_at, set_page, left, half, flushed}
 use Rattle.pages.proofs.ListLaws.{pick_both, pick_true}
 use Rattle.pages.specs.Laws.{elsewhere, FlushedStays, byte_left, ByteStays}
 

@@ -1,19 +1,19 @@
 -- The engine of a client takes the machine's steps, keeps memory's length and its numbers below 2^64. Assumes nothing.
-use Rattle.std.proofs.Common.{◌≡◌, ℕ, zero, suc, ◌+◌, ◌-◌, ◌*◌, ◌/◌, ◌%◌, ◌^◌, ◌<◌, ◌≤◌, min, max, Bool, true, false, ◌&&◌, eqb, ltb, leb, ◌≢◌, ◌⊎◌, List, [], ◌∷◌, ◌++◌, length, get_or, take, drop, sym, refl, ap, ◌∙◌, subst, ap₂, inl, inr, append_assoc, append-nil, arith, length-append, length-drop, take-append-drop, length-take}
-use Rattle.std.proofs.lemmas.Bool.{eq-eqb, eqb-true, cases_lt, ltb-false, true≢false}
+use Rattle.std.proofs.Common.{◌≡◌, ℕ, ◌+◌, ◌-◌, ◌%◌, ◌^◌, ◌<◌, ◌≤◌, min, max, Bool, true, false, eqb, ltb, leb, List, [], ◌∷◌, ◌++◌, length, get_or, take, drop, sym, refl, ap, ◌∙◌, append_assoc, arith, length-append, length-drop, length-take}
+use Rattle.std.proofs.lemmas.Bool.{eq-eqb, eqb-true, ltb-false, true≢false}
 use Rattle.std.proofs.lemmas.List.{take_at, drop_at}
-use Rattle.pages.specs.Lists.{pick, or, zeros}
-use Rattle.pages.specs.Words.{bytes_of, page_words, small, over}
-use Rattle.pages.specs.Run.{Engine, Event, on, said, page, next, heard, lost, Step, done}
-use Rattle.pages.specs.Machine.{Asked, Program, Moved, served, begun, first_serving, Looked, looked, taken, wanted, go_on, page_came, laid_on, act_done, unexpected, buffer_words}
+use Rattle.pages.specs.Lists.{or}
+use Rattle.pages.specs.Words.{page_words, small, over}
+use Rattle.pages.specs.Run.{Event, on, said, page, next, heard, lost, Step, done}
+use Rattle.pages.specs.Machine.{Asked, Moved, served, begun, first_serving, looked, taken, wanted, go_on, page_came, laid_on, act_done, unexpected, buffer_words}
 use Rattle.pages.specs.Engine.{memory_cells, bulk_cells, serving_cells, machine_cells, serving_in, machine_in, Housed, image, stored, stepped_in, engine, request_cells, Small, Lawful}
 use Rattle.pages.specs.declared.machine.Request.{Request}
 use Rattle.pages.specs.declared.machine.Request.TheVariants.{Recall, Look, Object, Lay, Publish, Show, Finish}
 use Rattle.pages.specs.declared.machine.Serving.{Serving}
 use Rattle.pages.specs.declared.machine.Serving.TheVariants.{Idle, Recalling, Looking, Opening, Laying, Flushing, Heading, Settling, Showing}
 use Rattle.pages.specs.declared.machine.Machine.{Machine}
-use Rattle.pages.proofs.ListLaws.{pick_both, pick_true, pick_false, or_cases}
-use Rattle.pages.proofs.WordLaws.{small_append, small_parts, small_take, small_drop, small_over, small_first, small_from, small_getD, length_page_words, page_words_small}
+use Rattle.pages.proofs.ListLaws.{pick_both, pick_true}
+use Rattle.pages.proofs.WordLaws.{small_append, small_take, small_drop, small_over, small_first, small_from, small_getD, page_words_small}
 
 -- cells hold the machine
 machine_cells_length : (r : Machine) → length (machine_cells r) ≡ 8

@@ -1,6 +1,6 @@
 -- A derivation for a client is one for a client that hands its phases down to it. Assumes nothing.
-use Rattle.std.proofs.Common.{◌≡◌, ℕ, Bool, true, false, List, [], ◌∷◌, ◌++◌, get_or, take, drop, sym, refl, ap, ◌∙◌, subst}
-use Rattle.pages.specs.Words.{bytes_of, over, small}
+use Rattle.std.proofs.Common.{◌≡◌, ℕ, Bool, true, List, get_or, take, drop, sym, subst}
+use Rattle.pages.specs.Words.{over}
 use Rattle.pages.specs.Crash.{Rows}
 use Rattle.pages.specs.Machine.{Asked, Program, wanted}
 use Rattle.pages.specs.Tape.{Does, recalls, looks, opens, lays, publishes, rows, finishes, HandedDown}

@@ -1,9 +1,9 @@
 -- Laws of the list functions that all crates share, over any list and any test.
-use Rattle.std.proofs.Common.{◌≡◌, ℕ, zero, suc, ◌+◌, ◌-◌, ◌<◌, ◌≤◌, Bool, true, false, not, ◌&&◌, eqb, ltb, leb, ◌⊎◌, List, [], ◌∷◌, ◌++◌, length, Decides, sym, refl, ap, ◌∙◌, subst, inl, inr, ⊎_elim, arith}
-use Rattle.std.proofs.lemmas.Bool.{true≢false, false≢true, eqb-true, eqb-false, eq-eqb, ne_eqb, and_parts, and_from, not-true, not_from_false, not_from_true, ltb-true, lt-ltb, cases_order}
-use Rattle.std.proofs.lemmas.Bool.Decides.{Decides-eqb, nat_tests as tells}
+use Rattle.std.proofs.Common.{◌≡◌, ℕ, suc, ◌+◌, ◌<◌, ◌≤◌, Bool, true, false, not, ◌&&◌, eqb, ltb, ◌⊎◌, List, [], ◌∷◌, ◌++◌, length, Decides, sym, refl, ap, ◌∙◌, subst, inl, inr, ⊎_elim, arith}
+use Rattle.std.proofs.lemmas.Bool.{true≢false, false≢true, eqb-true, eq-eqb, and_parts, and_from, not_from_false, not_from_true, ltb-true, lt-ltb, cases_order}
+use Rattle.std.proofs.lemmas.Bool.Decides.{nat_tests as tells}
 use Rattle.pages.specs.Laws.{RowsOrdered}
-use Rattle.pages.specs.Lists.{pick, or, every, any, each, those, flat, same, earlier, has, none_of, first_of, first_or, distinct, added_up, zeros, so_many}
+use Rattle.pages.specs.Lists.{pick, or, every, any, each, those, flat, same, earlier, has, none_of, first_or, distinct, added_up}
 
 -- PICK
 

@@ -1,22 +1,22 @@
 -- A client that goes well on the tape goes well on the device. Each request is followed through its acts; the tape's laws say what the device holds.
 -- Assumes nothing.
-use Rattle.std.proofs.Common.{◌≡◌, ℕ, zero, suc, ◌+◌, ◌-◌, ◌*◌, ◌/◌, ◌%◌, ◌^◌, ◌<◌, ◌≤◌, min, max, Bool, true, false, ◌&&◌, eqb, ltb, leb, ◌≢◌, ◌⊎◌, List, [], ◌∷◌, ◌++◌, length, get_or, take, drop, sym, refl, ap, ◌∙◌, subst, ap₂, subst₂, inl, inr, append_assoc, append-nil, arith, length-append, length-drop, take-append-drop, length-take, take-add}
-use Rattle.std.proofs.lemmas.Bool.{eq-eqb, ne_eqb, le-ltb, lt-ltb, le-leb, lt-leb, cases_lt, and_from}
-use Rattle.std.proofs.lemmas.List.{take_at, drop_at, take-append-le, take-take, drop-drop, drop-take, take_all, length-take-le, get_or-take, get_or-drop}
-use Rattle.pages.specs.Lists.{pick, or, zeros}
+use Rattle.std.proofs.Common.{◌≡◌, ℕ, zero, suc, ◌+◌, ◌-◌, ◌*◌, ◌/◌, ◌%◌, ◌^◌, ◌<◌, ◌≤◌, min, Bool, true, false, ◌&&◌, eqb, ltb, leb, ◌⊎◌, List, ◌++◌, length, get_or, take, drop, sym, refl, ap, ◌∙◌, subst, ap₂, subst₂, inl, inr, append_assoc, arith, length-append, length-drop, length-take, take-add}
+use Rattle.std.proofs.lemmas.Bool.{ne_eqb, le-ltb, lt-ltb, le-leb, lt-leb, cases_lt, and_from}
+use Rattle.std.proofs.lemmas.List.{take_at, drop_at, take-append-le, take-take, drop-drop, drop-take, length-take-le, get_or-take, get_or-drop}
+use Rattle.pages.specs.Lists.{pick, or}
 use Rattle.pages.specs.Words.{bytes_of, page_words, small, over}
 use Rattle.pages.specs.Device.{Device, Page, read_page, all_written, flushed, stopped, a_page}
-use Rattle.pages.specs.Run.{Engine, Event, on, said, page, next, Act, read, write, flush, shows, done, refused, Step, World, in_memory, on_device, queued, writable, refusal_end}
-use Rattle.pages.specs.Crash.{Rows, stepped, Goes, reads, writes, flushes, showing, ends, refuses}
-use Rattle.pages.specs.Machine.{Asked, Program, Moved, moved, served, begun, first_serving, first_act, Looked, looked, taken, wanted, go_on, place, head_page, buffer_words}
-use Rattle.pages.specs.Engine.{memory_cells, bulk_cells, Housed, image, stored, engine, Small, Lawful}
+use Rattle.pages.specs.Run.{Event, said, page, next, read, write, flush, shows, done, refused, World, in_memory, on_device, queued, writable}
+use Rattle.pages.specs.Crash.{Rows, stepped, Goes, reads, writes, flushes, showing, refuses}
+use Rattle.pages.specs.Machine.{Asked, served, begun, first_serving, first_act, looked, taken, wanted, go_on, place, head_page, buffer_words}
+use Rattle.pages.specs.Engine.{bulk_cells, Housed, image, stored, engine, Small, Lawful}
 use Rattle.pages.specs.Tape.{first_page, last_page, page_of, published, Window, Tied, Does, recalls, looks, opens, lays, publishes, rows, finishes, Safe, Held, OnTheDevice}
 use Rattle.pages.specs.declared.machine.Request.{Request}
 use Rattle.pages.specs.declared.machine.Request.TheVariants.{Recall, Look, Object, Lay, Publish, Show, Finish}
 use Rattle.pages.specs.declared.machine.Serving.{Serving}
 use Rattle.pages.specs.declared.machine.Serving.TheVariants.{Idle, Recalling, Looking, Opening, Laying, Flushing, Heading, Settling, Showing}
 use Rattle.pages.specs.declared.machine.Machine.{Machine}
-use Rattle.pages.proofs.ListLaws.{pick_both, pick_true, pick_false}
+use Rattle.pages.proofs.ListLaws.{pick_true, pick_false}
 use Rattle.pages.proofs.WordLaws.{small_take, small_drop, small_over, length_over, words_of_page, page_of_words, head_is_page, head_words, head_of_front}
 use Rattle.pages.proofs.TapeLaws.{read_elsewhere, place_inside, tied_lay, tied_flush, tied_stopped, tied_head, tied_heading}
 use Rattle.pages.proofs.EngineLaws.{step_image}

@@ -1,17 +1,17 @@
 -- What a device holds of a tape stays held: when a page is laid behind it, at a flush, when a new head is written, after a stop. Assumes nothing.
-use Rattle.std.proofs.Common.{◌≡◌, ℕ, zero, suc, ◌+◌, ◌-◌, ◌*◌, ◌/◌, ◌%◌, ◌^◌, ◌<◌, ◌≤◌, Bool, true, false, ◌&&◌, eqb, ltb, ◌≢◌, ◌⊎◌, List, [], ◌∷◌, ◌++◌, length, get_or, take, drop, sym, refl, ap, ◌∙◌, subst, ap₂, inl, inr, append_assoc, append-nil, mod-lt, mul-le-mul_left, mul-suc, arith, length-append, length-drop, take-append-drop, length-take}
+use Rattle.std.proofs.Common.{◌≡◌, ℕ, zero, suc, ◌+◌, ◌*◌, ◌/◌, ◌%◌, ◌^◌, ◌<◌, ◌≤◌, Bool, true, false, eqb, ◌≢◌, ◌⊎◌, List, [], ◌∷◌, ◌++◌, length, take, drop, sym, refl, ap, ◌∙◌, subst, ap₂, inl, inr, mod-lt, mul-le-mul_left, mul-suc, arith, length-append, length-drop, take-append-drop}
 use Rattle.std.proofs.lemmas.Bool.{eqb-false, ne_eqb, cases_lt, false≢true}
-use Rattle.std.proofs.lemmas.List.{take_at, drop_at, take_all, take-take, take-append-le, drop-append-le, drop-take, length-take-le}
+use Rattle.std.proofs.lemmas.List.{take_at, drop_at, take_all, take-append-le, drop-append-le, length-take-le}
 use Rattle.pages.specs.Lists.{pick, zeros}
-use Rattle.pages.specs.Device.{Device, Page, Write, page_at, set_page, all_written, left, half, flushed, stopped, read_page, blank, a_page}
+use Rattle.pages.specs.Device.{Device, Page, Write, page_at, set_page, all_written, left, half, flushed, stopped, read_page, blank}
 use Rattle.pages.specs.Bytes.{in_bytes}
-use Rattle.pages.specs.Words.{words, bytes_of, page_words, small}
+use Rattle.pages.specs.Words.{bytes_of, small}
 use Rattle.pages.specs.Laws.{elsewhere}
-use Rattle.pages.specs.Run.{queued, writable}
+use Rattle.pages.specs.Run.{queued}
 use Rattle.pages.specs.Machine.{place, head_page}
 use Rattle.pages.specs.Tape.{first_page, last_page, page_of, published, Window, Tied}
-use Rattle.pages.proofs.ListLaws.{pick_true, pick_false, pick_both}
-use Rattle.pages.proofs.WordLaws.{small_append, small_take, small_drop, length_bytes_of, page_of_words, head_is_page, head_page_is, length_zeros}
+use Rattle.pages.proofs.ListLaws.{pick_false, pick_both}
+use Rattle.pages.proofs.WordLaws.{small_append, small_take, length_bytes_of}
 use Rattle.pages.proofs.DeviceLaws.{page_at_set_other, left_elsewhere}
 
 -- DEVICES

@@ -1,5 +1,5 @@
 -- Crash logic: when a run of an engine goes well whatever the stops. Assumes nothing: these are definitions.
-use Rattle.std.specs.Prelude.{◌≡◌, ℕ, Bool, true, false, ◌⊎◌, List, [], ◌∷◌, ◌++◌}
+use Rattle.std.specs.Prelude.{◌≡◌, ℕ, true, ◌⊎◌, List, [], ◌∷◌, ◌++◌}
 use Rattle.pages.specs.Device.{Device, Page, read_page, flushed}
 use Rattle.pages.specs.Run.{Engine, Event, page, next, Act, read, write, flush, shows, done, refused, Step, World, Ran, in_memory, on_device, queued, writable, refusal_end, runs}
 

@@ -1,6 +1,6 @@
 -- The engine of a client: its registers and the machine's stand in the first cells of memory, the buffer and all else behind them.
 -- Assumes nothing: these are definitions.
-use Rattle.std.specs.Prelude.{◌≡◌, ℕ, zero, suc, Bool, true, false, ◌&&◌, List, [], ◌∷◌, ◌++◌, length, take, drop, ◌==◌, nat_le, slice_index}
+use Rattle.std.specs.Prelude.{◌≡◌, ℕ, Bool, true, false, ◌&&◌, List, [], ◌∷◌, ◌++◌, length, take, drop, ◌==◌, nat_le, slice_index}
 use Rattle.pages.specs.Lists.{pick, zeros}
 use Rattle.pages.specs.Words.{small}
 use Rattle.pages.specs.Run.{Engine, Event, Step, done}

@@ -1,5 +1,5 @@
 -- What rows and a device promise, as statements: each is a type whose proof stands on a contract of this crate.
-use Rattle.std.specs.Prelude.{◌≡◌, ℕ, zero, suc, ◌+◌, ◌-◌, ◌*◌, ◌/◌, ◌%◌, ◌<◌, ◌≤◌, Bool, true, false, not, ◌&&◌, ◌⊎◌, List, [], ◌∷◌, ◌++◌, length, ◌==◌, slice_index}
+use Rattle.std.specs.Prelude.{◌≡◌, ℕ, Bool, true, false, ◌&&◌, ◌⊎◌, List, [], ◌∷◌, length, ◌==◌, slice_index}
 use Rattle.pages.specs.Lists.{pick, same, earlier}
 use Rattle.pages.specs.Device.{Device, Write, page_at, read_page, flushed, stopped}
 

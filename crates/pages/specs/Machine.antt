@@ -1,7 +1,7 @@
 -- The request machine: how a client's requests are served, one act at a time. Page 0 has the head; the pages behind it are a ring, on which virtual
 -- pages, counted from 0 and never wrapping, lie one after the other. Defined for every value of the registers and every event.
 -- Assumes nothing: these are definitions.
-use Rattle.std.specs.Prelude.{◌≡◌, ℕ, zero, suc, ◌+◌, ◌-◌, ◌*◌, ◌/◌, ◌%◌, min, max, Bool, true, false, ◌&&◌, List, [], ◌∷◌, ◌++◌, length, take, drop, ◌==◌, nat_le, nat_lt, slice_index}
+use Rattle.std.specs.Prelude.{◌≡◌, ℕ, ◌+◌, ◌-◌, ◌/◌, ◌%◌, min, max, Bool, true, false, ◌&&◌, List, ◌++◌, length, take, drop, ◌==◌, nat_le, nat_lt, slice_index}
 use Rattle.pages.specs.Lists.{pick, or, zeros}
 use Rattle.pages.specs.Words.{bytes_of, page_words, over}
 use Rattle.pages.specs.Run.{Event, on, said, page, next, heard, lost, Act, read, write, flush, shows, done, refused}

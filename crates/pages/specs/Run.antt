@@ -1,8 +1,8 @@
 -- The house as a machine with a memory, asked and answered step by step; how it runs beside its pages and the other houses.
 -- Assumes nothing: these are definitions.
-use Rattle.std.specs.Prelude.{◌≡◌, ℕ, zero, suc, ◌+◌, ◌-◌, ◌*◌, ◌/◌, ◌%◌, ◌<◌, ◌≤◌, Bool, true, false, not, ◌&&◌, ltb, List, [], ◌∷◌, ◌++◌, length, ◌==◌, nat_le, nat_lt}
+use Rattle.std.specs.Prelude.{ℕ, zero, suc, Bool, true, false, ◌&&◌, ltb, List, [], ◌∷◌, ◌++◌, length, ◌==◌, nat_le, nat_lt}
 use Rattle.pages.specs.Lists.{pick, every}
-use Rattle.pages.specs.Device.{Device, Page, Write, read_page, flushed, a_page}
+use Rattle.pages.specs.Device.{Device, Page, read_page, flushed, a_page}
 
 -- what the machine is told
 pub data Event : Type 0 where

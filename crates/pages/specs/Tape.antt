@@ -1,6 +1,6 @@
 -- The tape: all words ever laid, of which the head names a window; how a device holds it; and the logic by which a client is followed on it.
 -- Assumes nothing: these are definitions.
-use Rattle.std.specs.Prelude.{◌≡◌, ℕ, zero, suc, ◌+◌, ◌*◌, ◌<◌, ◌≤◌, Bool, true, false, List, [], ◌∷◌, ◌++◌, length, take, drop, slice_index}
+use Rattle.std.specs.Prelude.{◌≡◌, ℕ, suc, ◌+◌, ◌*◌, ◌<◌, ◌≤◌, Bool, true, List, [], ◌∷◌, ◌++◌, length, take, drop, slice_index}
 use Rattle.pages.specs.Words.{small, bytes_of, over}
 use Rattle.pages.specs.Device.{Device, page_at, read_page, stopped}
 use Rattle.pages.specs.Run.{World, said}

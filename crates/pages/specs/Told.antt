@@ -1,5 +1,5 @@
 -- How events and acts are told: what each case of the code's enums means. Assumes nothing: these are definitions.
-use Rattle.std.specs.Prelude.{◌≡◌, ℕ, ◌+◌, ◌*◌, List, [], ◌∷◌, ◌++◌, length, drop}
+use Rattle.std.specs.Prelude.{◌≡◌, ℕ, ◌+◌, ◌*◌, List, ◌++◌, length, drop}
 use Rattle.pages.specs.Run.{Event, on, said, page, next, heard, lost, Act, read, write, flush, shows, send, done, refused}
 use Rattle.pages.specs.declared.told.Event.{Event as Told-event}
 use Rattle.pages.specs.declared.told.Event.TheVariants.{On, Said, Page, Next, Heard, Lost}

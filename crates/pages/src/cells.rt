@@ -72,7 +72,7 @@ fn machine_cells(machine: Machine) -> [u64; 8]
 // One step of the machine and the client that a memory holds; a memory of another length, or a lent row without room for a row of bytes, is left
 // alone.
 pub fn step<C: Client + Drop>(memory: &mut [u64], event: Event, out: &mut [u8]) -> Told
-    ensures { StepTold (engine_fits memory.old out.old) (housed (program wakes hears resumes) loads saves) memory.old (event_meant event.entry) out.old result memory.new out.new }
+    ensures { StepTold (engine_fits memory.old out.old) (housed (program C.wakes C.hears C.resumes) C.loads C.saves) memory.old (event_meant event.entry) out.old result memory.new out.new }
 {
     if memory.len() != CELLS || out.len() < ROW {
         return Told::No(0);
@@ -82,8 +82,8 @@ pub fn step<C: Client + Drop>(memory: &mut [u64], event: Event, out: &mut [u8]) 
 
 fn step_whole<C: Client + Drop>(memory: &mut [u64], event: Event, out: &mut [u8]) -> Told
     requires { (length memory.old ≡ memory_cells) × (row_bytes ≤ length out.old) }
-    ensures memory { memory.new ≡ (stepped_in (housed (program wakes hears resumes) loads saves) memory.old (event_meant event.entry)).memory }
-    ensures told { ActTold (stepped_in (housed (program wakes hears resumes) loads saves) memory.old (event_meant event.entry)).act result out.old out.new }
+    ensures memory { memory.new ≡ (stepped_in (housed (program C.wakes C.hears C.resumes) C.loads C.saves) memory.old (event_meant event.entry)).memory }
+    ensures told { ActTold (stepped_in (housed (program C.wakes C.hears C.resumes) C.loads C.saves) memory.old (event_meant event.entry)).act result out.old out.new }
 {
     let mut machine = load_machine(memory);
     let mut cells = [0; 120];

@@ -37,7 +37,7 @@ pub trait Promises {
 
 // A run that goes well by the crash logic, whatever is promised of its stops and its end, ends well, and may be stopped after any of its acts.
 pub fn runs_well<P: Promises>(p: &P) -> u8
-    ensures { RunsWell (stop p.now) (end p.now) }
+    ensures { RunsWell (P.stop p.now) (P.end p.now) }
 {
     0
 }
@@ -58,14 +58,14 @@ pub trait Course<K> {
 
 // A client that goes well on the tape goes well on the device, whatever the stops.
 pub fn goes_on_the_device<K, P: Course<K>>(p: &P) -> u8
-    ensures { OnTheDevice (stop p.now) (end p.now) }
+    ensures { OnTheDevice (P.stop p.now) (P.end p.now) }
 {
     0
 }
 
 // What was shown of a client on the tape holds of one that hands these phases down to it.
 pub fn hands_down<K, P: Course<K>>(p: &P) -> u8
-    ensures { HandedDown (stop p.now) (end p.now) }
+    ensures { HandedDown (P.stop p.now) (P.end p.now) }
 {
     0
 }

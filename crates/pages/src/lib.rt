@@ -1,4 +1,6 @@
 // Pages that keep what is written through any stop.
+#![tactic(auto)]
+
 pub mod bytes;
 pub mod cells;
 pub mod laws;

@@ -161,7 +161,7 @@ fn begin(machine: &mut Machine, memory: &[u64], request: Request, out: &mut [u8]
 // What was asked for is done: the client is asked again.
 fn ask<C: Client>(machine: &mut Machine, client: &mut C, memory: &mut [u64], out: &mut [u8]) -> Told
     requires { (buffer_words ≤ length memory.old) × (row_bytes ≤ length out.old) }
-    ensures { Moves (begun machine.old.ring (resumes client.old memory.old)) machine.new client.new memory.new result out.old out.new }
+    ensures { Moves (begun machine.old.ring (C.resumes client.old memory.old)) machine.new client.new memory.new result out.old out.new }
 {
     let request = client.resume(memory);
     begin(machine, memory, request, out)
@@ -195,7 +195,7 @@ fn look_on<C: Client>(
     out: &mut [u8],
 ) -> Told
     requires { (buffer_words ≤ length memory.old) × (row_bytes ≤ length out.old) }
-    ensures { Moves (go_on (program wakes hears resumes) machine.old.ring client.old (looked at left got words.now memory.old)) machine.new client.new memory.new result out.old out.new }
+    ensures { Moves (go_on (program C.wakes C.hears C.resumes) machine.old.ring client.old (looked at left got words.now memory.old)) machine.new client.new memory.new result out.old out.new }
 {
     let many = take_words(at, left, got, words, memory);
     if left <= many {
@@ -229,7 +229,7 @@ fn page_came<C: Client>(
     out: &mut [u8],
 ) -> Told
     requires { (buffer_words ≤ length memory.old) × (row_bytes ≤ length out.old) }
-    ensures { Moves (page_came (program wakes hears resumes) machine.old.ring client.old memory.old (page_words page.now) machine.old.serving) machine.new client.new memory.new result out.old out.new }
+    ensures { Moves (page_came (program C.wakes C.hears C.resumes) machine.old.ring client.old memory.old (page_words page.now) machine.old.serving) machine.new client.new memory.new result out.old out.new }
 {
     let words = page_words(page);
     match machine.serving {
@@ -269,7 +269,7 @@ fn lay_on<C: Client>(
     out: &mut [u8],
 ) -> Told
     requires { (buffer_words ≤ length memory.old) × (row_bytes ≤ length out.old) }
-    ensures { Moves (laid_on (program wakes hears resumes) machine.old.ring client.old memory.old page left from) machine.new client.new memory.new result out.old out.new }
+    ensures { Moves (laid_on (program C.wakes C.hears C.resumes) machine.old.ring client.old memory.old page left from) machine.new client.new memory.new result out.old out.new }
 {
     if left == 0 || from > 41_024 {
         return ask(machine, client, memory, out);
@@ -292,7 +292,7 @@ fn act_done<C: Client>(
     out: &mut [u8],
 ) -> Told
     requires { (buffer_words ≤ length memory.old) × (row_bytes ≤ length out.old) }
-    ensures { Moves (act_done (program wakes hears resumes) machine.old.ring client.old memory.old machine.old.serving) machine.new client.new memory.new result out.old out.new }
+    ensures { Moves (act_done (program C.wakes C.hears C.resumes) machine.old.ring client.old memory.old machine.old.serving) machine.new client.new memory.new result out.old out.new }
 {
     match machine.serving {
         Serving::Laying { page, left, from } => lay_on(
@@ -328,7 +328,7 @@ pub fn serve<C: Client>(
     event: Event,
     out: &mut [u8],
 ) -> Told
-    ensures { ServeSays (serve_fits memory.old out.old) (program wakes hears resumes) machine.old client.old memory.old (event_meant event.entry) out.old result machine.new client.new memory.new out.new }
+    ensures { ServeSays (serve_fits memory.old out.old) (program C.wakes C.hears C.resumes) machine.old client.old memory.old (event_meant event.entry) out.old result machine.new client.new memory.new out.new }
 {
     if memory.len() < BUFFER || out.len() < ROW {
         return Told::No(0);
@@ -344,7 +344,7 @@ fn take_in<C: Client>(
     out: &mut [u8],
 ) -> Told
     requires { (buffer_words ≤ length memory.old) × (row_bytes ≤ length out.old) }
-    ensures { Moves (served (program wakes hears resumes) machine.old client.old memory.old (event_meant event.entry)) machine.new client.new memory.new result out.old out.new }
+    ensures { Moves (served (program C.wakes C.hears C.resumes) machine.old client.old memory.old (event_meant event.entry)) machine.new client.new memory.new result out.old out.new }
 {
     match event {
         Event::On {

@@ -5,4 +5,4 @@ use Rattle.pages.proofs.bytes.in_eight.Goals as goal
 
 pub returns : goal.returns
 unfolding in_bytes
-returns c = c.to-be-bytes.ensures ∙ sym (simp div-div-eq-div-mul)
+returns c = c.to_be_bytes.ensures ∙ sym (simp div-div-eq-div-mul)

@@ -1,4 +1,4 @@
-use Rattle.std.proofs.Common.{◌≡◌, ℕ, Bool, true, eqb, leb, List, length, sym, refl, ap, ◌∙◌, subst}
+use Rattle.std.proofs.Common.{◌≡◌, ℕ, true, eqb, leb, List, length, sym, ap, ◌∙◌, subst}
 use Rattle.std.proofs.lemmas.Bool.{eq-eqb, le-leb, and_from}
 use Rattle.pages.specs.Run.{Step, done}
 use Rattle.pages.specs.Told.{ActTold, event_meant}
@@ -17,7 +17,7 @@ returns g c =
     let long : eqb (length m) 262144 ≡ true = eq-eqb (length m) 262144 c.if-memory-ne-CELLS.false in
     let fits : engine_fits m out ≡ true = and_from (eqb (length m) 262144) (leb 131072 (length out)) long (le-leb 131072 (length out) c.if-out-lt-ROW.false) in
     let steps : (engine f).step m ev ≡ stepped_in f m ev = pick_true (eqb (length m) 262144) (stepped_in f m ev) (record { memory = m; act = done }) long in
-    subst (λ b. StepTold b f m ev out c.step-whole.result c.step-whole.new.memory c.step-whole.new.out) (sym fits) (
-      c.step-whole.ensures.memory ∙ sym (ap (λ (s : Step). s.memory) steps),
-      subst (λ (s : Step). ActTold s.act c.step-whole.result out c.step-whole.new.out) (sym steps) c.step-whole.ensures.told,
+    subst (λ b. StepTold b f m ev out c.step_whole.result c.step_whole.new.memory c.step_whole.new.out) (sym fits) (
+      c.step_whole.ensures.memory ∙ sym (ap (λ (s : Step). s.memory) steps),
+      subst (λ (s : Step). ActTold s.act c.step_whole.result out c.step_whole.new.out) (sym steps) c.step_whole.ensures.told,
     )

@@ -1,11 +1,11 @@
-use Rattle.std.proofs.Common.{◌≡◌, ℕ, ◌+◌, ◌≤◌, Bool, true, leb, List, [], ◌++◌, length, take, drop, sym, refl, ap, ◌∙◌, subst, ap₂, append-nil, arith, length-append, length-drop, length-take}
+use Rattle.std.proofs.Common.{◌≡◌, ℕ, ◌≤◌, true, leb, List, ◌++◌, length, take, drop, ap, ◌∙◌, subst, ap₂, append-nil, arith, length-append, length-drop, length-take}
 use borrow.Rule.Slice.PartMut.{put_mid}
 use Rattle.std.proofs.lemmas.List.{take_at, drop_at, drop-drop, drop_all, take_all, length-take-le}
 use Rattle.std.proofs.lemmas.Bool.{le-leb, and_from}
 use Rattle.pages.specs.Run.{Event}
 use Rattle.pages.specs.Told.{ActTold, event_meant}
-use Rattle.pages.specs.Machine.{Moved, Moves, ServeSays, serve_fits, served, program}
-use Rattle.pages.specs.Engine.{Housed, housed, image, machine_cells, machine_in, stepped_in}
+use Rattle.pages.specs.Machine.{Moves, ServeSays, serve_fits, served, program}
+use Rattle.pages.specs.Engine.{Housed, housed, machine_cells, machine_in, stepped_in}
 use Rattle.pages.specs.declared.machine.Machine.{Machine}
 use Rattle.pages.specs.declared.told.Told.{Told}
 use Rattle.pages.proofs.cells.step_whole.Goals as goal
@@ -63,16 +63,16 @@ returns g c =
     let m : List ℕ = c.args.memory.now in
     let out : List ℕ = c.args.out.now in
     let last = c.serve-told.new in
-    let lm : length c.copy-from-slice-2.new.self ≡ 8 = c.copy-from-slice-2.ensures.len ∙ front_length m last.memory c.requires.0 in
+    let lm : length c.copy_from_slice-2.new.self ≡ 8 = c.copy_from_slice-2.ensures.len ∙ front_length m last.memory c.requires.0 in
     let x =
-    whole_step f m (event_meant c.args.event) c.load-client.result c.copy-from-slice-2.new.self c.copy-from-slice-3.new.self out
+    whole_step f m (event_meant c.args.event) c.load-client.result c.copy_from_slice-2.new.self c.copy_from_slice-3.new.self out
     c.serve-told.result last.machine last.client last.memory last.out c.requires.0 c.requires.1
-    (c.load-client.ensures ∙ ap g.C.Client.loads c.copy-from-slice.ensures.after)
+    (c.load-client.ensures ∙ ap g.C.Client.loads c.copy_from_slice.ensures.after)
     (subst
     (λ r. ServeSays (serve_fits (take 262016 (drop 128 m)) out) f.program r c.load-client.result (take 262016 (drop 128 m)) (event_meant c.args.event) out
     c.serve-told.result last.machine last.client last.memory last.out)
-    c.load-machine-machine.ensures c.serve-told.ensures)
-    (c.copy-from-slice-2.ensures.after ∙ c.machine_cells.ensures) (c.copy-from-slice-3.ensures.after ∙ c.save.ensures) lm
-    (c.copy-from-slice-3.ensures.len ∙ middle_length m c.copy-from-slice-2.new.self last.memory c.requires.0 lm)
+    c.load_machine-machine.ensures c.serve-told.ensures)
+    (c.copy_from_slice-2.ensures.after ∙ c.machine_cells.ensures) (c.copy_from_slice-3.ensures.after ∙ c.save.ensures) lm
+    (c.copy_from_slice-3.ensures.len ∙ middle_length m c.copy_from_slice-2.new.self last.memory c.requires.0 lm)
     (c.serve-told.auto.memory ∙ back_length m c.requires.0) in
     record { memory = x.0; told = x.1 }

@@ -1,6 +1,4 @@
-use Rattle.std.proofs.Common.{◌≡◌, ℕ, List, ◌++◌, length, take, drop, sym, refl, ap, ◌∙◌, subst, ap₂, arith}
-use Rattle.std.proofs.lemmas.List.{length-take-le}
-use Rattle.std.proofs.lemmas.Bool.{eqb-true, and_parts}
+use Rattle.std.proofs.Common.{◌≡◌, ℕ, List, ◌++◌, length, drop, sym, refl, ap, ◌∙◌, subst, ap₂, arith}
 use Rattle.pages.specs.Machine.{Moves, act_done, head_page, program}
 use Rattle.pages.specs.declared.machine.Serving.TheVariants.{Heading}
 use Rattle.pages.specs.declared.told.Told.TheVariants.{Write}
@@ -13,11 +11,11 @@ returns-in-Flushing g c =
     let out : List ℕ = c.args.out.now in
     let p = program g.C.Client.wakes g.C.Client.hears g.C.Client.resumes in
     let l : length (head_page m) ≡ 512 = length_head_page m (omega (arith, c.requires.0)) in
-    subst (λ v. Moves v (record { ring = c.args.machine.now.ring; serving = Heading }) c.args.client.now m (Write 0) out c.put-head.new.out)
+    subst (λ v. Moves v (record { ring = c.args.machine.now.ring; serving = Heading }) c.args.client.now m (Write 0) out c.put_head.new.out)
     (sym (ap (λ s. act_done p c.args.machine.now.ring c.args.client.now m s) c.in-Flushing.is))
     (record {
       machine_is = refl;
       state_is = refl;
       memory_is = refl;
-      act_is = (refl, c.put-head.ensures ∙ ap₂ (λ xs n. xs ++ drop n out) (sym (head_of_front m)) (sym l));
+      act_is = (refl, c.put_head.ensures ∙ ap₂ (λ xs n. xs ++ drop n out) (sym (head_of_front m)) (sym l));
     })

@@ -1,4 +1,4 @@
-use Rattle.std.proofs.Common.{◌≡◌, ◌+◌, ◌%◌, eqb, sym, arith}
+use Rattle.std.proofs.Common.{◌+◌, ◌%◌, eqb, sym}
 use Rattle.std.proofs.lemmas.Bool.{eq-eqb, ne_eqb}
 use Rattle.pages.specs.Machine.{place}
 use Rattle.pages.proofs.ListLaws.{pick_true, pick_false}

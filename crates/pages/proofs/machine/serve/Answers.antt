@@ -1,4 +1,4 @@
-use Rattle.std.proofs.Common.{◌≡◌, ◌<◌, ◌≤◌, Bool, true, false, leb, ◌⊎◌, length, sym, refl, subst, inl, inr, arith}
+use Rattle.std.proofs.Common.{◌≡◌, true, false, leb, length, sym, refl, subst, inl, inr, arith}
 use Rattle.std.proofs.lemmas.Bool.{le-leb, lt-leb, and_from, and_left, and_right}
 use Rattle.pages.specs.Machine.{ServeSays, serve_fits, program}
 use Rattle.pages.specs.Told.{event_meant}
@@ -27,6 +27,6 @@ returns g c =
     and_from (leb 41088 (length c.args.memory.now)) (leb 131072 (length c.args.out.now)) (le-leb 41088 (length c.args.memory.now) (omega arith))
     (le-leb 131072 (length c.args.out.now) (omega arith)) in
     subst
-    (λ b. ServeSays b p c.args.machine.now c.args.client.now c.args.memory.now (event_meant c.args.event) c.args.out.now c.take-in.result
-    c.take-in.new.machine c.take-in.new.client c.take-in.new.memory c.take-in.new.out)
-    (sym fits) c.take-in.ensures
+    (λ b. ServeSays b p c.args.machine.now c.args.client.now c.args.memory.now (event_meant c.args.event) c.args.out.now c.take_in.result
+    c.take_in.new.machine c.take_in.new.client c.take_in.new.memory c.take_in.new.out)
+    (sym fits) c.take_in.ensures

@@ -1,4 +1,4 @@
-use Rattle.std.proofs.Common.{◌≡◌, ℕ, ◌+◌, ◌-◌, ◌%◌, ◌≤◌, min, List, ◌++◌, length, take, drop, sym, refl, ap, ◌∙◌, ap₂, arith, length-drop, take-append-drop, length-take}
+use Rattle.std.proofs.Common.{◌≡◌, ℕ, ◌+◌, ◌-◌, ◌%◌, min, List, ◌++◌, length, take, drop, sym, ap, ◌∙◌, arith, length-drop, take-append-drop}
 use borrow.Rule.Slice.PartMut.{put_mid}
 use Rattle.std.proofs.lemmas.List.{length-take-le, drop-drop}
 use Rattle.pages.specs.Machine.{taken}
@@ -23,14 +23,14 @@ returns-then-many-gt0 c =
     let ws : List ℕ = c.args.words.now in
     let k : ℕ = c.min-many.result in
     let many : k ≡ taken c.args.at c.args.left c.args.got =
-    c.min-many.ensures ∙ ap (min (64 - from)) (c.min.ensures ∙ ap (min c.args.left) c.saturating-sub.ensures) in
+    c.min-many.ensures ∙ ap (min (64 - from)) (c.min.ensures ∙ ap (min c.args.left) c.saturating_sub.ensures) in
     let e : from + k - from ≡ k = omega arith in
-    let part : c.copy-from-slice.new.self ≡ take k (drop from ws) = c.copy-from-slice.ensures.after ∙ ap (λ n. take n (drop from ws)) e in
+    let part : c.copy_from_slice.new.self ≡ take k (drop from ws) = c.copy_from_slice.ensures.after ∙ ap (λ n. take n (drop from ws)) e in
     let l : length (take k (drop from ws)) ≡ k = length-take-le k (drop from ws) (omega (arith, length-drop from ws, c.told-words)) in
     record {
       many = many;
       memory =
-          over_part c.args.got k c.args.memory.now c.copy-from-slice.new.self (ap length part ∙ l)
+          over_part c.args.got k c.args.memory.now c.copy_from_slice.new.self (ap length part ∙ l)
           ∙ ap (λ xs. over c.args.got xs c.args.memory.now) (part ∙ ap (λ n. take n (drop from ws)) many);
     }
 
@@ -38,7 +38,7 @@ pub returns-else-many-gt0 : goal.returns-else-many-gt0
 returns-else-many-gt0 c =
     let from : ℕ = c.args.at % 64 in
     let many : c.min-many.result ≡ taken c.args.at c.args.left c.args.got =
-    c.min-many.ensures ∙ ap (min (64 - from)) (c.min.ensures ∙ ap (min c.args.left) c.saturating-sub.ensures) in
+    c.min-many.ensures ∙ ap (min (64 - from)) (c.min.ensures ∙ ap (min c.args.left) c.saturating_sub.ensures) in
     let none : taken c.args.at c.args.left c.args.got ≡ 0 = omega (arith, c.if-many-gt0.false) in
     record {
       many = many;

@@ -7,8 +7,8 @@ use Rattle.pages.proofs.words.page_bytes.Goals as goal
 whole : (ws out was : List ℕ) → length ws ≡ 64 → length was ≡ 512 → out ≡ bytes_of ws ++ drop (8 * length ws) was → out ≡ bytes_of ws
 whole ws out was l k e = e ∙ ap (λ xs. bytes_of ws ++ xs) (drop_all (8 * length ws) was (omega arith)) ∙ append-nil (bytes_of ws)
 
-pub put-words-requires : goal.put-words-requires
-put-words-requires c = omega arith
+pub put_words-requires : goal.put_words-requires
+put_words-requires c = omega arith
 
 pub returns : goal.returns
-returns c = whole c.args.words.now c.put-words.new.out _ c.told-words refl c.put-words.ensures
+returns c = whole c.args.words.now c.put_words.new.out _ c.told-words refl c.put_words.ensures

@@ -1,4 +1,4 @@
-use Rattle.std.proofs.Common.{◌≡◌, ◌+◌, ◌-◌, ◌*◌, ◌<◌, ◌≤◌, eqb, [], ◌∷◌, ◌++◌, length, take, drop, sym, refl, ap, ◌∙◌, arith, length-set}
+use Rattle.std.proofs.Common.{◌≡◌, ◌+◌, ◌-◌, ◌*◌, ◌<◌, eqb, [], ◌∷◌, ◌++◌, length, take, drop, sym, refl, ap, ◌∙◌, arith, length-set}
 use Rattle.std.proofs.lemmas.List.{take_more_set, take_all, take-take}
 use Rattle.std.proofs.lemmas.Bool.{ne_eqb, and_left}
 use Rattle.pages.specs.Lists.{zeros}
@@ -34,7 +34,7 @@ returns c =
     let p = c.args.page.now in
     let i : c.loop-i.i ≡ 64 = omega arith in
     sym (take_all 64 c.loop-i.words (omega (arith, c.loop-i.invariant.0))) ∙ ap (λ n. take n c.loop-i.words) (sym i) ∙ c.loop-i.invariant.1 ∙ ap (λ n. words n p) i
-    ∙ sym (pick_true (a_page p) (words 64 p) (zeros 64) (a_page_from p c.if-page-ne512.false (all_bytes_by p c.type-inv.page)))
+    ∙ sym (pick_true (a_page p) (words 64 p) (zeros 64) (a_page_from p c.if-page-ne512.false (all_bytes_by p c.type_inv.page)))
 
 pub returns-then-page-ne512 : goal.returns-then-page-ne512
 unfolding page_words zeros

@@ -1,4 +1,4 @@
-use Rattle.std.proofs.Common.{◌≡◌, ℕ, ◌+◌, ◌-◌, ◌*◌, ◌/◌, ◌%◌, ◌<◌, ◌≤◌, List, ◌++◌, length, get_or, take, drop, sym, refl, ap, ◌∙◌, ap₂, arith}
+use Rattle.std.proofs.Common.{◌≡◌, ℕ, ◌+◌, ◌-◌, ◌*◌, ◌/◌, ◌%◌, ◌<◌, ◌≤◌, List, ◌++◌, length, get_or, take, drop, sym, ap, ◌∙◌, ap₂, arith}
 use native.Mathlib.Nat.{sub-zero}
 use borrow.Rule.Slice.PartMut.{put_mid}
 use Rattle.std.proofs.lemmas.List.{length-take-le}
@@ -28,10 +28,10 @@ returns-then-whole-bytes c =
     let e : b / 8 * 8 ≡ 8 * (b / 8) = omega arith in
     let r : b - b / 8 * 8 ≡ b % 8 = omega arith in
     let s : 8 * (b / 8) + b % 8 ≡ b = omega arith in
-    ap₂ (λ n k. put_mid n k c.put-words.new.out c.copy-from-slice.new.self) e r
-    ∙ part ws c.args.out.now c.put-words.new.out c.copy-from-slice.new.self (b / 8) (b % 8) q (omega arith)
-    (front ws c.args.out.now c.put-words.new.out (b / 8) (omega arith) c.put-words.ensures)
-    (c.copy-from-slice.ensures.after ∙ ap₂ (λ n xs. take n xs) (sub-zero (b % 8)) c.in-eight.ensures)
+    ap₂ (λ n k. put_mid n k c.put_words.new.out c.copy_from_slice.new.self) e r
+    ∙ part ws c.args.out.now c.put_words.new.out c.copy_from_slice.new.self (b / 8) (b % 8) q (omega arith)
+    (front ws c.args.out.now c.put_words.new.out (b / 8) (omega arith) c.put_words.ensures)
+    (c.copy_from_slice.ensures.after ∙ ap₂ (λ n xs. take n xs) (sub-zero (b % 8)) c.in_eight.ensures)
     ∙ ap (λ n. take n (bytes_of ws) ++ drop n c.args.out.now) s
 
 pub returns-else-whole-bytes : goal.returns-else-whole-bytes
@@ -39,6 +39,6 @@ returns-else-whole-bytes c =
     let b : ℕ = c.args.bytes in
     let ws : List ℕ = c.args.words.now in
     let s : 8 * (b / 8) ≡ b = omega arith in
-    front ws c.args.out.now c.put-words.new.out (b / 8) (omega arith) c.put-words.ensures
+    front ws c.args.out.now c.put_words.new.out (b / 8) (omega arith) c.put_words.ensures
     ∙ ap (λ xs. xs ++ drop (8 * (b / 8)) c.args.out.now) (sym (bytes_whole ws (b / 8) (omega arith)))
     ∙ ap (λ n. take n (bytes_of ws) ++ drop n c.args.out.now) s

@@ -1,4 +1,4 @@
-use Rattle.std.proofs.Common.{◌≡◌, ℕ, ◌*◌, List, ◌++◌, length, take, drop, sym, refl, ap, ◌∙◌, ap₂, arith}
+use Rattle.std.proofs.Common.{◌≡◌, ℕ, ◌*◌, List, ◌++◌, length, drop, sym, ap, ◌∙◌, ap₂, arith}
 use borrow.Rule.Slice.PartMut.{put_mid}
 use Rattle.std.proofs.lemmas.List.{take_all}
 use Rattle.pages.specs.Lists.{zeros}
@@ -18,5 +18,5 @@ padded ws was mid new l e n =
 pub returns : goal.returns
 unfolding zeros
 returns c =
-    padded c.args.words.now c.args.out.now c.put-words.new.out c.copy-from-slice.new.self c.requires.0 c.put-words.ensures
-    c.copy-from-slice.ensures.after
+    padded c.args.words.now c.args.out.now c.put_words.new.out c.copy_from_slice.new.self c.requires.0 c.put_words.ensures
+    c.copy_from_slice.ensures.after

@@ -1,4 +1,4 @@
-use Rattle.std.proofs.Common.{◌≡◌, ◌*◌, ◌<◌, ◌≤◌, ◌++◌, length, take, drop, sym, refl, ap, ◌∙◌, ap₂, arith}
+use Rattle.std.proofs.Common.{◌≡◌, ◌*◌, ◌++◌, length, drop, refl, ◌∙◌, ap₂, arith}
 use Rattle.std.proofs.lemmas.List.{take_all}
 use Rattle.pages.specs.Words.{bytes_of}
 use Rattle.pages.proofs.WordLaws.{put_more}
@@ -10,8 +10,8 @@ loop-i-init c = refl
 
 pub loop-i-preserved : goal.loop-i-preserved
 loop-i-preserved c =
-    put_more c.args.words.now c.loop-i.out c.args.out.now c.copy-from-slice.new.self c.loop-i.i (omega arith) c.loop-i.invariant
-    (c.copy-from-slice.ensures.after ∙ c.in-eight.ensures)
+    put_more c.args.words.now c.loop-i.out c.args.out.now c.copy_from_slice.new.self c.loop-i.i (omega arith) c.loop-i.invariant
+    (c.copy_from_slice.ensures.after ∙ c.in_eight.ensures)
 
 pub returns : goal.returns
 returns c =
