@@ -1,4 +1,6 @@
 // Commands, and the bytes that spell them.
+#![tactic(auto)]
+
 mod command;
 pub mod laws;
 mod parts;

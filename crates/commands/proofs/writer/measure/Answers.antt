@@ -15,7 +15,7 @@ returns-then-n-most c = record {
 pub returns-in-Row : goal.returns-in-Row
 returns-in-Row c = record {
   is =
-      c.row-size.ensures.is
+      c.row_size.ensures.is
       ∙ sym (ap (λ p. if_so (piece_fits p) (length (piece_bytes p))) c.in-Row.is ∙ ap (if_so _) (length_with_length c.in-Row.bytes.now));
-  small = c.row-size.ensures.small;
+  small = c.row_size.ensures.small;
 }

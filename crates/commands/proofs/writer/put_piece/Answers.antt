@@ -6,8 +6,8 @@ use Rattle.commands.proofs.ParseLaws.{all_bytes_row}
 use Rattle.commands.specs.Spell.{written, piece_bytes}
 use Rattle.commands.proofs.writer.put_piece.Goals as goal
 
-pub put-row-requires : goal.put-row-requires
-put-row-requires c = omega (arith, ap (λ p. length (piece_bytes p)) c.in-Row.is, length_with_length c.in-Row.bytes.now)
+pub put_row-requires : goal.put_row-requires
+put_row-requires c = omega (arith, ap (λ p. length (piece_bytes p)) c.in-Row.is, length_with_length c.in-Row.bytes.now)
 
 pub returns-in-Nothing : goal.returns-in-Nothing
 unfolding all_bytes
@@ -20,7 +20,7 @@ returns-in-Nothing c = record {
 pub returns-in-Number : goal.returns-in-Number
 unfolding all_bytes
 returns-in-Number c =
-    let e = c.in-eight.ensures in
+    let e = c.in_eight.ensures in
     record {
       row = c.put.ensures.row ∙ ap (written c.args.out.now c.args.at) e ∙ sym (ap (λ p. written c.args.out.now c.args.at (piece_bytes p)) c.in-Number.is);
       end = omega (arith, ap (λ p. length (piece_bytes p)) c.in-Number.is, ap length e);
@@ -29,7 +29,7 @@ returns-in-Number c =
 
 pub returns-in-Row : goal.returns-in-Row
 returns-in-Row c = record {
-  row = c.put-row.ensures.row ∙ sym (ap (λ p. written c.args.out.now c.args.at (piece_bytes p)) c.in-Row.is);
+  row = c.put_row.ensures.row ∙ sym (ap (λ p. written c.args.out.now c.args.at (piece_bytes p)) c.in-Row.is);
   end = omega (arith, ap (λ p. length (piece_bytes p)) c.in-Row.is, length_with_length c.in-Row.bytes.now);
-  real = ap (λ p. all_bytes (piece_bytes p)) c.in-Row.is ∙ all_bytes_row c.in-Row.bytes.now ∙ c.put-row.ensures.real;
+  real = ap (λ p. all_bytes (piece_bytes p)) c.in-Row.is ∙ all_bytes_row c.in-Row.bytes.now ∙ c.put_row.ensures.real;
 }

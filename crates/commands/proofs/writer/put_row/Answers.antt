@@ -12,11 +12,11 @@ returns c =
     let size = eight (length bytes) in
     let l : length size ≡ 8 = length_eight (length bytes) in
     let first : c.put-middle.new.out ≡ written out c.args.at size =
-    c.put-middle.ensures.row ∙ ap (written out c.args.at) c.in-eight.ensures in
+    c.put-middle.ensures.row ∙ ap (written out c.args.at) c.in_eight.ensures in
     let middle : c.put-middle.result ≡ c.args.at + length size =
-    c.put-middle.ensures.end ∙ ap (λ b. c.args.at + length b) c.in-eight.ensures in
+    c.put-middle.ensures.end ∙ ap (λ b. c.args.at + length b) c.in_eight.ensures in
     record {
       row = c.put.ensures.row ∙ ap₂ (λ o i. written o i bytes) first middle ∙ written_more out c.args.at size bytes (omega arith);
       end = omega arith;
-      real = all_bytes_by bytes c.type-inv.bytes;
+      real = all_bytes_by bytes c.type_inv.bytes;
     }
