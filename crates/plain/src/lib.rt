@@ -1,4 +1,6 @@
 // The plain houses, to be run: whole trees, one book of all commits, and what each command shows and leaves.
+#![tactic(auto)]
+
 pub mod book;
 pub mod house;
 pub mod refusal;
