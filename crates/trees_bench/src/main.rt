@@ -1,4 +1,6 @@
 // How long it takes to put 4,000 files into an empty row, and to find 4,000 in a full one; the times go to stderr.
+#![tactic(auto)]
+
 use std::time::Instant;
 use trees::rows::{find, put};
 

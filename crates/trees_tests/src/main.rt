@@ -1,5 +1,7 @@
 // Tree rows beside an ordinary map: many random puts, finds and take-outs with short, long, equal-prefix and zero-byte paths;
 // a full row; rows stored and spread again; differences. Prints how much was done and how often the two disagreed.
+#![tactic(auto)]
+
 use std::alloc::{AllocError, Global};
 use std::collections::BTreeMap;
 use trees::differences::{Cursor, Place, differ};
