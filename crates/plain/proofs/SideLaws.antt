@@ -1,8 +1,8 @@
 -- Two sides at a path: alike or not, and what joining leaves of them.
-use Rattle.std.proofs.Common.{◌≡◌, ℕ, Bool, true, false, not, ◌&&◌, List, [], ◌∷◌, Decides, sym, refl, arith, rules}
+use Rattle.std.proofs.Common.{◌≡◌, ℕ, Bool, true, false, List, [], ◌∷◌, Decides, arith, rules}
 use Rattle.std.proofs.lemmas.Slice.Eq.{compares_Decides}
-use Rattle.pages.specs.Lists.{pick, or, same}
-use Rattle.trees.specs.Tree.{Tree, alike, found, changed, clash, joined_at}
+use Rattle.pages.specs.Lists.{same}
+use Rattle.trees.specs.Tree.{alike, clash, joined_at}
 use Rattle.plain.specs.Sides.{Meets}
 
 same_decides : (xs ys : List ℕ) → Decides (same xs ys) (xs ≡ ys)

@@ -1,10 +1,9 @@
 -- Which refusal comes first, by the conditions that a plain house's turn tests. Assumes nothing: these are definitions.
-use Rattle.std.specs.Prelude.{◌≡◌, ℕ, Bool, true, false, not, ◌&&◌, List, [], ◌∷◌, ◌++◌}
-use Rattle.pages.specs.Lists.{pick, or, none_of, same}
-use Rattle.history.specs.Book.{Book, Sum}
-use Rattle.commands.specs.Command.{Command, branch, go_to, commit, tag, forget}
-use Rattle.trees.specs.Tree.{same_tree}
-use Rattle.house.specs.House.{Plain, Clone, Turn, turn, ref_of, tip, tree_of, clean}
+use Rattle.std.specs.Prelude.{◌≡◌, ℕ, Bool, not, ◌&&◌, List, ◌++◌}
+use Rattle.pages.specs.Lists.{pick, none_of, same}
+use Rattle.history.specs.Book.{Sum}
+use Rattle.commands.specs.Command.{branch, go_to, commit, tag, forget}
+use Rattle.house.specs.House.{Plain, Clone, turn, ref_of, tip, clean}
 
 abbrev pub taken_at : Clone → List ℕ → Bool
 taken_at x n = not (none_of (ref_of (x.branches ++ x.tags) n) && not (same n x.here))

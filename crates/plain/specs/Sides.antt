@@ -1,8 +1,8 @@
 -- What code holds of a path, as the plain definitions have it; and what it says of two sides that are put together. Assumes nothing: these are
 -- definitions.
-use Rattle.std.specs.Prelude.{◌≡◌, ℕ, Bool, true, false, not, ◌&&◌, List, [], ◌∷◌, Some, None, Option}
+use Rattle.std.specs.Prelude.{◌≡◌, ℕ, Bool, List, [], ◌∷◌, Some, None, Option}
 use Rattle.std.specs.Borrow.{Bor}
-use Rattle.trees.specs.Tree.{Tree, found, alike, changed, clash, joined_at}
+use Rattle.trees.specs.Tree.{Tree, found, changed, clash, joined_at}
 
 -- none, or one row of bytes
 abbrev pub rows : Option (Bor (List ℕ)) → List (List ℕ)

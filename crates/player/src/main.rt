@@ -1,4 +1,6 @@
 // Plays days at houses that run, beside plain houses, and says whether they agree. docs/PLAYER.md has the forms.
+#![tactic(auto)]
+
 mod bench;
 mod day;
 mod device;

@@ -8,14 +8,14 @@ pub returns-then-alike : goal.returns-then-alike
 returns-then-alike c =
     let q : alike (rows c.args.ours) (rows c.args.theirs) ≡ true = search rules in meets_alike _ _ _ _ q
 
-pub returns-then-ours-changed : goal.returns-then-ours-changed
-returns-then-ours-changed c =
+pub returns-then-ours_changed : goal.returns-then-ours_changed
+returns-then-ours_changed c =
     let q : alike (rows c.args.ours) (rows c.args.theirs) ≡ false = search rules in
-    let y : c.args.ours-changed ≡ true = search rules in
+    let y : c.args.ours_changed ≡ true = search rules in
     meets_ours _ _ _ _ q y
 
 pub returns : goal.returns
 returns c =
     let q : alike (rows c.args.ours) (rows c.args.theirs) ≡ false = search rules in
-    let y : c.args.ours-changed ≡ false = search rules in
+    let y : c.args.ours_changed ≡ false = search rules in
     meets_theirs _ _ _ _ q y
