@@ -79,13 +79,13 @@ fn head_of(heap: Global, text: &[u8]) -> Result<Option<Head>, AllocError> {
     };
     let (word, more) = cut_word(rest);
     let mut tail = rest;
-    if word == b"line" {
+    if word == b"line".as_slice() {
         let (count, behind) = cut_word(more);
         head.letters = number_of(count).unwrap_or(0);
         tail = behind;
     }
     let (word, more) = cut_word(tail);
-    if word == b"stops" {
+    if word == b"stops".as_slice() {
         head.stop = stop_of(heap, more)?;
     }
     Ok(Some(head))
@@ -103,7 +103,7 @@ fn cut_colon(line: &[u8]) -> Option<(&[u8], &[u8])> {
 
 fn item_of(heap: Global, line: &[u8]) -> Result<Option<Item>, AllocError> {
     let (word, rest) = cut_word(line);
-    if word == b"power" {
+    if word == b"power".as_slice() {
         return match head_of(heap, rest)? {
             Some(Head { house, stop, .. }) => Ok(Some(Item {
                 house,
@@ -182,11 +182,11 @@ impl Day {
         if word.is_empty() || word.first().copied() == Some(b'#') {
             return Ok(true);
         }
-        if word == b"houses" || word == b"pages" {
+        if word == b"houses".as_slice() || word == b"pages".as_slice() {
             let Some(n) = number_of(rest) else {
                 return Ok(false);
             };
-            if word == b"houses" {
+            if word == b"houses".as_slice() {
                 self.houses = n as usize;
             } else {
                 self.pages = n as usize;

@@ -295,10 +295,10 @@ fn command_later<'a>(
 // What a line of text says to a house, as bytes; none where it is no command.
 pub fn said(heap: Global, line: &[u8]) -> Result<Option<Vec<u8>>, AllocError> {
     let (verb, rest) = cut_word(line);
-    if verb == b"raw" {
+    if verb == b"raw".as_slice() {
         return from_hex(heap, rest);
     }
-    if verb == b"carry" {
+    if verb == b"carry".as_slice() {
         let Some(id) = from_hex(heap, rest)? else {
             return Ok(None);
         };
