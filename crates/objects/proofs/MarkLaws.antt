@@ -2,7 +2,7 @@
 use Rattle.std.proofs.Common.{◌≡◌, ℕ, zero, suc, ◌+◌, ◌-◌, ◌*◌, ◌/◌, ◌<◌, ◌≤◌, min, Bool, true, false, ◌&&◌, eqb, ltb, leb, ◌⊎◌, List, [], ◌∷◌, ◌++◌, length, get_or, take, drop, Some, None, Option, sym, refl, ap, ◌∙◌, subst, ap₂, inl, inr, arith, length-drop}
 use Rattle.std.proofs.lemmas.List.{get_or_append_left, get_or-take, get_or-drop, length-take-le, take_all, take_more}
 use Rattle.std.proofs.lemmas.Bool.{cases_lt, cases_order, both_ways, eq-eqb, lt-ltb, le-ltb, le-leb, ltb-true, leb-true, eqb-true, and_parts, and_from}
-use Rattle.pages.specs.Lists.{pick, or, every, any, has, same, zeros, added_up}
+use Rattle.pages.specs.Lists.{pick, every, has, same, zeros, added_up}
 use Rattle.pages.specs.Words.{over, small}
 use Rattle.pages.specs.Crash.{Rows}
 use Rattle.pages.specs.Engine.{bulk_cells}

@@ -13,7 +13,7 @@ use Rattle.store.specs.Bitmap.{bit}
 use Rattle.objects.specs.Plan.{rest_at, head_at, map_at, counts_at, counts_words, plan_end, map_of, counts_of, map_words}
 use Rattle.objects.specs.Ranks.{count_below, counts, ranked}
 use Rattle.objects.specs.Packing.{gathered, pages_in, kept_back, packed, pages_packed, filled}
-use Rattle.objects.specs.Sweeping.{roots_of, renamed, new_name, renaming, new_head}
+use Rattle.objects.specs.Sweeping.{roots_of, renamed, new_name, new_head}
 use Rattle.objects.proofs.CountLaws.{count_bounded}
 use Rattle.objects.proofs.PlanLaws.{part_of_append, over_drop, over_behind, over_part, over_part_before}
 use Rattle.objects.proofs.RankLaws.{ranks}

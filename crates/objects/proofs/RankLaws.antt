@@ -1,5 +1,5 @@
 -- Ranks by counts, and the parts of a memory that they read. Assumes nothing.
-use Rattle.std.proofs.Common.{◌≡◌, ℕ, zero, suc, ◌+◌, ◌-◌, ◌*◌, ◌/◌, ◌%◌, ◌^◌, ◌<◌, ◌≤◌, min, true, eqb, ◌⊎◌, List, ◌++◌, map, length, get_or, take, drop, set, sum_by, sym, refl, ap, ◌∙◌, ap₂, inl, inr, mod-lt, mod-eq_of_lt, arith, length-drop, length-take}
+use Rattle.std.proofs.Common.{◌≡◌, ℕ, zero, suc, ◌+◌, ◌-◌, ◌*◌, ◌/◌, ◌%◌, ◌^◌, ◌<◌, ◌≤◌, min, true, eqb, ◌⊎◌, List, ◌++◌, length, get_or, take, drop, set, sum_by, sym, refl, ap, ◌∙◌, ap₂, inl, inr, mod-lt, mod-eq_of_lt, arith, length-drop, length-take}
 use native.Mathlib.Nat.{mod-one}
 use lib.Count.{ones, ones_step, ones_cat}
 use lib.Seq.{paste}

@@ -1,15 +1,15 @@
 -- Room: the bytes of what is live against what it weighs. Assumes nothing.
-use Rattle.std.proofs.Common.{◌≡◌, ℕ, zero, suc, ◌+◌, ◌-◌, ◌*◌, ◌/◌, ◌%◌, ◌<◌, ◌≤◌, Bool, true, false, not, ◌&&◌, eqb, ltb, leb, ◌⊎◌, List, [], ◌∷◌, ◌++◌, length, get_or, take, drop, sym, refl, ap, ◌∙◌, subst, inl, inr, mul-add, arith, length-append}
-use Rattle.std.proofs.lemmas.List.{get_or-take, get_or-drop, get_or-append_right, take_at}
-use Rattle.std.proofs.lemmas.Bool.{cases_Bool, eq-eqb, ne_eqb, eqb-true, eqb-false, ltb-true, and_parts, false≢true}
+use Rattle.std.proofs.Common.{◌≡◌, ℕ, ◌+◌, ◌-◌, ◌*◌, ◌<◌, ◌≤◌, Bool, true, false, not, eqb, ltb, ◌⊎◌, List, [], ◌∷◌, ◌++◌, length, get_or, drop, sym, refl, ap, ◌∙◌, subst, inl, inr, mul-add, arith, length-append}
+use Rattle.std.proofs.lemmas.List.{get_or-take, get_or-drop, get_or-append_right}
+use Rattle.std.proofs.lemmas.Bool.{eq-eqb, ne_eqb, eqb-true, ltb-true, and_parts, false≢true}
 use Rattle.std.proofs.lemmas.Bool.Decides.{Decides-eqb}
 use Rattle.pages.specs.Lists.{pick, has, every, each, those, flat, added_up}
-use Rattle.pages.specs.Object.{heading, size_of, kind_of, own_weight, references_of, data_of, object_at, size_in, kind_in, references_in}
-use Rattle.pages.proofs.ListLaws.{In, Once, pick_both, pick_true, pick_false, has_in, in_has, those_in, in_those, in_each, in_flat, once_those, added_up_but, added_up_alike, length_added_up, those_all, every_in, in_append}
+use Rattle.pages.specs.Object.{size_of, kind_of, own_weight, references_of, object_at, size_in}
+use Rattle.pages.proofs.ListLaws.{In, Once, pick_both, pick_true, pick_false, has_in, in_has, those_in, in_those, in_each, in_flat, once_those, added_up_but, length_added_up, every_in}
 use Rattle.pages.proofs.ObjectLaws.{heading_parts}
 use Rattle.objects.specs.Heap.{Live, root, named, Lives, units, units_at, weights, heading_at, rising}
 use Rattle.objects.specs.Layouts.{words_for, file_object, commit_object, name_object, tree_weight_in, noted_weight}
-use Rattle.objects.specs.Room.{bytes_for, quarter, reserve, Built, Roomy, work_weight, TakesLittle, RingHasRoom, LayoutsBuilt}
+use Rattle.objects.specs.Room.{bytes_for, Built, Roomy, work_weight, TakesLittle, RingHasRoom, LayoutsBuilt}
 
 -- THE RING
 pub ring_has_room : RingHasRoom

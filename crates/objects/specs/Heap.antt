@@ -1,8 +1,8 @@
 -- What is live on a tape: the objects that roots name, and those that live objects name. Where objects may stand, and what is known of all live ones.
 -- Assumes nothing: these are definitions.
-use Rattle.std.specs.Prelude.{◌≡◌, ℕ, suc, ◌+◌, ◌-◌, ◌*◌, ◌/◌, ◌<◌, ◌≤◌, Bool, true, false, ◌&&◌, ltb, List, [], ◌∷◌, length, take, ◌==◌, nat_le, nat_lt, slice_index}
+use Rattle.std.specs.Prelude.{◌≡◌, ℕ, ◌+◌, ◌-◌, ◌*◌, ◌/◌, ◌<◌, ◌≤◌, Bool, true, ◌&&◌, ltb, List, [], ◌∷◌, take, ◌==◌, nat_le, nat_lt, slice_index}
 use Rattle.pages.specs.Lists.{or, every, any, has, same, added_up}
-use Rattle.pages.specs.Object.{size_in, references_in, size_of, kind_of, own_weight, references_of, data_of, object_at}
+use Rattle.pages.specs.Object.{size_in, references_in, kind_of, own_weight, references_of, data_of, object_at}
 
 pub data Live (t roots : List ℕ) : ℕ → Type 0 where
   root : (r : ℕ) → 1 ≤ r → has roots r ≡ true → Live t roots r

@@ -1,14 +1,14 @@
 -- Marking: a walk down a tape that meets each live object once. A bit of the map stands for each unit of the window. The roots' bits are set; then the highest
 -- bit below the cursor is the start of a live object, whose own units and whose references are marked in turn. Since references point down, one way down
 -- meets all. On the way weights are added up, and an object with a key is looked for. Assumes nothing: these are definitions.
-use Rattle.std.specs.Prelude.{◌≡◌, ℕ, zero, suc, ◌+◌, ◌-◌, ◌*◌, ◌/◌, ◌<◌, ◌≤◌, min, Bool, true, false, not, ◌&&◌, ◌⊎◌, List, [], ◌∷◌, ◌++◌, length, take, drop, Some, None, Option, ◌==◌, nat_lt, slice_index}
-use Rattle.pages.specs.Lists.{pick, or, has, same, any, zeros}
-use Rattle.pages.specs.Words.{over, small}
+use Rattle.std.specs.Prelude.{◌≡◌, ℕ, ◌+◌, ◌-◌, ◌*◌, ◌<◌, ◌≤◌, min, true, false, ◌&&◌, ◌⊎◌, List, [], ◌∷◌, length, take, drop, Some, None, Option, ◌==◌, nat_lt, slice_index}
+use Rattle.pages.specs.Lists.{pick, same, zeros}
+use Rattle.pages.specs.Words.{small}
 use Rattle.pages.specs.Crash.{Rows}
 use Rattle.pages.specs.Engine.{bulk_cells}
 use Rattle.pages.specs.Machine.{Asked, asked, Program, capped, buffer_words}
 use Rattle.pages.specs.Object.{size_in, references_in, kind_in, object_at}
-use Rattle.pages.specs.Tape.{first_page, last_page, Does}
+use Rattle.pages.specs.Tape.{first_page, Does}
 use Rattle.pages.specs.declared.machine.Request.{Request}
 use Rattle.pages.specs.declared.machine.Request.TheVariants.{Object}
 use Rattle.store.specs.Bitmap.{bit, with_bit, with_run, highest}

@@ -1,6 +1,6 @@
 -- Packing: objects follow each other unit by unit, and are laid in whole pages. What is more than whole pages waits for the next object.
 -- Assumes nothing: these are definitions.
-use Rattle.std.specs.Prelude.{ℕ, ◌+◌, ◌-◌, ◌*◌, ◌/◌, ◌%◌, min, Bool, true, false, List, [], ◌∷◌, ◌++◌, length, take, drop, nat_lt}
+use Rattle.std.specs.Prelude.{ℕ, ◌+◌, ◌-◌, ◌*◌, ◌/◌, min, List, ◌++◌, length, take, drop, nat_lt}
 use Rattle.pages.specs.Lists.{pick, zeros}
 use Rattle.pages.specs.Words.{over}
 use Rattle.objects.specs.Plan.{rest_at, plan_end}

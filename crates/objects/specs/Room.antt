@@ -1,6 +1,6 @@
 -- How many bytes objects take on the tape, by what they weigh; and that the ring has room for three times what a quarter of the pages may weigh.
 -- Assumes nothing: these are definitions.
-use Rattle.std.specs.Prelude.{◌≡◌, ℕ, ◌+◌, ◌-◌, ◌*◌, ◌/◌, ◌<◌, ◌≤◌, Bool, true, false, ◌⊎◌, List, [], ◌∷◌, length, ◌==◌, slice_index}
+use Rattle.std.specs.Prelude.{◌≡◌, ℕ, ◌+◌, ◌-◌, ◌*◌, ◌/◌, ◌<◌, ◌≤◌, true, ◌⊎◌, List, length, ◌==◌, slice_index}
 use Rattle.pages.specs.Lists.{pick, has, added_up}
 use Rattle.pages.specs.Object.{size_of, kind_of, own_weight, references_of, object_at, size_in}
 use Rattle.objects.specs.Heap.{Live, Lives, units_at, weights, heading_at}

@@ -1,22 +1,22 @@
 -- Sweeping: what the head's roots reach is marked; then going up each live object is copied behind all others, its references renamed, and the head is
 -- published with a window that has the copies only. An object's new unit is the first new one and the number of marked units below its old one.
 -- Assumes nothing: these are definitions.
-use Rattle.std.specs.Prelude.{◌≡◌, ℕ, zero, suc, ◌+◌, ◌-◌, ◌*◌, ◌/◌, ◌%◌, ◌<◌, ◌≤◌, min, Bool, true, false, ◌&&◌, List, [], ◌∷◌, ◌++◌, length, take, drop, Some, None, Option, ◌==◌, nat_lt, slice_index}
-use Rattle.pages.specs.Lists.{pick, each, has, zeros, added_up}
-use Rattle.pages.specs.Words.{over, small}
+use Rattle.std.specs.Prelude.{◌≡◌, ℕ, ◌+◌, ◌-◌, ◌*◌, ◌/◌, ◌%◌, ◌<◌, ◌≤◌, min, List, ◌∷◌, ◌++◌, length, take, drop, Some, None, Option, ◌==◌, nat_lt, slice_index}
+use Rattle.pages.specs.Lists.{pick, each, added_up}
+use Rattle.pages.specs.Words.{over}
 use Rattle.pages.specs.Crash.{Rows}
 use Rattle.pages.specs.Engine.{bulk_cells}
 use Rattle.pages.specs.Machine.{Asked, asked, Program, capped, buffer_words}
 use Rattle.pages.specs.Object.{size_in, references_in, references_of, data_of, object_at}
-use Rattle.pages.specs.Tape.{first_page, last_page, published, Window, Does}
+use Rattle.pages.specs.Tape.{first_page, last_page, Window, Does}
 use Rattle.pages.specs.declared.machine.Request.{Request}
 use Rattle.pages.specs.declared.machine.Request.TheVariants.{Object, Lay, Publish}
 use Rattle.store.specs.Bitmap.{bit, lowest}
 use Rattle.objects.specs.Ranks.{ranked, tallied}
-use Rattle.objects.specs.Plan.{map_of, head_at, rest_at, plan_end}
+use Rattle.objects.specs.Plan.{map_of, head_at, plan_end}
 use Rattle.objects.specs.Heap.{Live, Heap, Lives, units, units_at}
 use Rattle.objects.specs.Packing.{packed, pages_packed, filled}
-use Rattle.objects.specs.Marking.{Stride, stride, key, walk, begun, sought, went_on}
+use Rattle.objects.specs.Marking.{Stride, key, walk, begun, sought, went_on}
 use Rattle.objects.specs.declared.mark.Walk.{Walk}
 use Rattle.objects.specs.declared.sweep.Sweep.{Sweep}
 use Rattle.objects.specs.declared.sweep.Stage.{Stage}

@@ -38,14 +38,14 @@ pub fn parts_stay() -> u8
 
 // A client that marks meets all that is live, and goes on well if it does so with what is marked in place.
 pub fn marks_what_is_live<K, P: Course<K>>(p: &P) -> u8
-    ensures { Marks (stop p.now) (end p.now) }
+    ensures { Marks (P.stop p.now) (P.end p.now) }
 {
     0
 }
 
 // A client that sweeps keeps all that is live, under new names, and goes on well if it does so with that in place.
 pub fn sweeps_keep_what_is_live<K, P: Course<K>>(p: &P) -> u8
-    ensures { Sweeps (stop p.now) (end p.now) }
+    ensures { Sweeps (P.stop p.now) (P.end p.now) }
 {
     0
 }

@@ -74,7 +74,7 @@ fn is_sought(walk: &Walk, memory: &[u64]) -> bool
 {
     let at = 2 + references_in(memory[0]).min(4_096) as usize;
     let key = walk.key.words();
-    kind_in(memory[0]) == walk.kind && &memory[at..at + 4] == &key
+    kind_in(memory[0]) == walk.kind && &memory[at..at + 4] == key.as_slice()
 }
 
 // Meets the object in the buffer: its units and references are marked, and its weight is added.

@@ -1,8 +1,8 @@
 -- The keeper loads what it saved, and sweeps and marks as a client has to. Assumes nothing.
-use Rattle.std.proofs.Common.{◌≡◌, ℕ, ◌≤◌, Bool, true, false, ltb, List, length, sym, refl, ap, ◌∙◌, ap₂, arith}
+use Rattle.std.proofs.Common.{◌≡◌, ℕ, ◌≤◌, ltb, List, length, sym, refl, ap, ◌∙◌, ap₂, arith}
 use Rattle.std.proofs.lemmas.Bool.{le-ltb}
 use Rattle.pages.specs.Engine.{bulk_cells}
-use Rattle.pages.specs.Lists.{pick, zeros}
+use Rattle.pages.specs.Lists.{zeros}
 use Rattle.pages.specs.Machine.{asked}
 use Rattle.pages.specs.declared.machine.Request.TheVariants.{Finish}
 use Rattle.pages.proofs.ListLaws.{pick_false}

@@ -2,10 +2,10 @@
 ghost use Rattle.std.specs.Prelude.{◌≡◌, ℕ, ◌*◌, ◌≤◌, List, length, take, drop, slice_index};
 ghost use Rattle.pages.specs.Machine.{asked, capped};
 ghost use Rattle.pages.specs.Words.{over};
-ghost use Rattle.objects.specs.Marking.{asked_on as Walked-on, begun, sought, walked, went_on};
+ghost use Rattle.objects.specs.Marking.{asked_on as walked_on, begun, sought, walked, went_on};
 ghost use Rattle.objects.specs.Plan.{head_at, plan_end};
-ghost use Rattle.objects.specs.Sweeping.{asked_on as swung-on, sweep_begun, sweep_went_on, swung};
-ghost use Rattle.objects_tests.specs.Keeper.{keeper_hears, keeper_loads, keeper_resumes, keeper_saves, keeper_wakes, KeeperSweeps, KeeperWalks, LoadsSaved, phase_code, phase_in, phase_said, request_said, said as Said-at, stage_code, stage_in, surveyed, surveying, sweep_in, sweeping, swept, walk_in, walk_said, window_in};
+ghost use Rattle.objects.specs.Sweeping.{asked_on as swung_on, sweep_begun, sweep_went_on, swung};
+ghost use Rattle.objects_tests.specs.Keeper.{keeper_hears, keeper_loads, keeper_resumes, keeper_saves, keeper_wakes, KeeperSweeps, KeeperWalks, LoadsSaved, phase_code, phase_in, phase_said, request_said, said as said_at, stage_code, stage_in, surveyed, surveying, sweep_in, sweeping, swept, walk_in, walk_said, window_in};
 
 use objects::mark::{Key, Walk};
 use objects::sweep::{Stage, Sweep};
@@ -115,7 +115,7 @@ fn sweep_in(cells: &[u64]) -> Sweep
 // The number that stands at a place of a text.
 fn said(text: &[u8], at: usize) -> u64
     requires { at ≤ length text.now }
-    ensures { result ≡ Said-at at text.now }
+    ensures { result ≡ said_at at text.now }
 {
     number(&text[at..])
 }
@@ -180,7 +180,7 @@ fn mark_roots(memory: &mut [u64], first: u64, roots: [u64; 8])
 impl Keeper {
     // The sweep asks for something; if not, it has ended, and the command with it.
     fn swept(&mut self, request: Option<Request>) -> Request
-        ensures { (m : List ℕ) → asked self.new m result ≡ swung-on (sweeping self.old.walk) (swept self.old.walk) self.old.sweep m request }
+        ensures { (m : List ℕ) → asked self.new m result ≡ swung_on (sweeping self.old.walk) (swept self.old.walk) self.old.sweep m request }
     {
         let Some(request) = request else {
             self.phase = Phase::Once;
@@ -212,7 +212,7 @@ impl Keeper {
     // The walk asks for something; if not, all is met, and what it weighs and the name of what was found are shown.
     fn surveyed(&mut self, memory: &mut [u64], request: Option<Request>) -> Request
         requires { plan_end ≤ length memory.old }
-        ensures { asked self.new memory.new result ≡ Walked-on (surveying self.old.sweep) (surveyed self.old.sweep) self.old.walk memory.old request }
+        ensures { asked self.new memory.new result ≡ walked_on (surveying self.old.sweep) (surveyed self.old.sweep) self.old.walk memory.old request }
     {
         let Some(request) = request else {
             self.phase = Phase::Once;

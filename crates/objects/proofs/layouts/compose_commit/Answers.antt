@@ -13,12 +13,12 @@ returns c =
     let fits : commit_fits commit from m ≡ true =
     and_from (bytes_stand 65535 commit.bytes from m) (leb (256 + commit.bytes + commit.tree_weight) 9223372036854775808) stands
     (le-leb (256 + commit.bytes + commit.tree_weight) 9223372036854775808 (omega (arith, at_most 65535 commit.bytes from m stands))) in
-    let long : c.words-for-words.result ≡ length (words_at commit.bytes from m) = c.words-for-words.ensures ∙ as_many 65535 commit.bytes from m stands in
+    let long : c.words_for-words.result ≡ length (words_at commit.bytes from m) = c.words_for-words.ensures ∙ as_many 65535 commit.bytes from m stands in
     let o = commit_of commit (words_at commit.bytes from m) in
     record {
-      answer = answers (commit_fits commit from m) o (11 + c.words-for-words.result) fits (omega arith);
+      answer = answers (commit_fits commit from m) o (11 + c.words_for-words.result) fits (omega arith);
       memory =
-          lays (commit_fits commit from m) o m c.put-object.new.memory (c.commit-front-front.result ++ take c.words-for-words.result (drop from m)) fits
-          c.put-object.ensures
-          (ap₂ (λ f n. f ++ take n (drop from m)) (c.commit-front-front.ensures ∙ ap (λ n. commit_front n commit) long) c.words-for-words.ensures);
+          lays (commit_fits commit from m) o m c.put_object.new.memory (c.commit_front-front.result ++ take c.words_for-words.result (drop from m)) fits
+          c.put_object.ensures
+          (ap₂ (λ f n. f ++ take n (drop from m)) (c.commit_front-front.ensures ∙ ap (λ n. commit_front n commit) long) c.words_for-words.ensures);
     }

@@ -12,12 +12,12 @@ returns c =
     let from = c.args.from in
     let sum = key_words c.args.sum in
     let fits : bytes_stand 65535 bytes from m ≡ true = sym c.stands.ensures ∙ c.if-not-stands.false in
-    let long : c.words-for-words.result ≡ length (words_at bytes from m) = c.words-for-words.ensures ∙ as_many 65535 bytes from m fits in
+    let long : c.words_for-words.result ≡ length (words_at bytes from m) = c.words_for-words.ensures ∙ as_many 65535 bytes from m fits in
     let o = file_object sum bytes (words_at bytes from m) in
     record {
-      answer = answers (bytes_stand 65535 bytes from m) o (6 + c.words-for-words.result) fits (omega arith);
+      answer = answers (bytes_stand 65535 bytes from m) o (6 + c.words_for-words.result) fits (omega arith);
       memory =
-          lays (bytes_stand 65535 bytes from m) o m c.put-object.new.memory
-          (c.heading.result ∷ (64 + bytes) ∷ (sum ++ take c.words-for-words.result (drop from m))) fits c.put-object.ensures
-          (ap₂ (λ h n. h ∷ (64 + bytes) ∷ (sum ++ take n (drop from m))) (c.heading.ensures ∙ ap (λ n. heading 1 0 (6 + n)) long) c.words-for-words.ensures);
+          lays (bytes_stand 65535 bytes from m) o m c.put_object.new.memory
+          (c.heading.result ∷ (64 + bytes) ∷ (sum ++ take c.words_for-words.result (drop from m))) fits c.put_object.ensures
+          (ap₂ (λ h n. h ∷ (64 + bytes) ∷ (sum ++ take n (drop from m))) (c.heading.ensures ∙ ap (λ n. heading 1 0 (6 + n)) long) c.words_for-words.ensures);
     }

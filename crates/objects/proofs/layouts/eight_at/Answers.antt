@@ -10,5 +10,5 @@ returns c =
     let i = c.args.i in
     let many = c.min-many.result in
     let e : 8 * i + many - 8 * i ≡ many = omega arith in
-    eight_made bs i many c.copy-from-slice.new.self (0 ∷ 0 ∷ 0 ∷ 0 ∷ 0 ∷ 0 ∷ 0 ∷ 0 ∷ []) c.requires c.min-many.ensures
-    (c.copy-from-slice.ensures.after ∙ ap (λ n. take n (drop (8 * i) bs)) e) refl
+    eight_made bs i many c.copy_from_slice.new.self (0 ∷ 0 ∷ 0 ∷ 0 ∷ 0 ∷ 0 ∷ 0 ∷ 0 ∷ []) c.requires c.min-many.ensures
+    (c.copy_from_slice.ensures.after ∙ ap (λ n. take n (drop (8 * i) bs)) e) refl

@@ -11,7 +11,7 @@ loop-i-init c = put_none c.args.bytes.now c.args.memory.now c.args.at (omega ari
 
 pub loop-i-preserved : goal.loop-i-preserved
 loop-i-preserved c =
-    ap (set c.loop-i.memory (c.args.at + c.loop-i.i)) (c.number.ensures ∙ ap (λ z. from_bytes 0 (take 8 z)) c.eight-at.ensures)
+    ap (set c.loop-i.memory (c.args.at + c.loop-i.i)) (c.number.ensures ∙ ap (λ z. from_bytes 0 (take 8 z)) c.eight_at.ensures)
     ∙ put_more c.args.bytes.now c.args.memory.now c.loop-i.memory c.args.at c.loop-i.i (omega arith) c.loop-i.invariant
 
 pub returns : goal.returns

@@ -9,10 +9,10 @@ returns c =
     let m = c.args.memory.now in
     let front = c.args.front.now in
     let ws = take c.args.many (drop c.args.from m) in
-    let laid = c.copy-from-slice.new.self in
-    let e : laid ≡ front = c.copy-from-slice.ensures.after in
+    let laid = c.copy_from_slice.new.self in
+    let e : laid ≡ front = c.copy_from_slice.ensures.after in
     let l : length laid ≡ length front - 0 = ap length e ∙ (omega arith) in
     let at : length front ≡ 0 + length front = omega arith in
-    put_over 0 (length front - 0) laid c.copy-down.new.memory l
-    ∙ ap₂ (over 0) e (c.copy-down.ensures ∙ ap (λ k. over k ws m) at)
+    put_over 0 (length front - 0) laid c.copy_down.new.memory l
+    ∙ ap₂ (over 0) e (c.copy_down.ensures ∙ ap (λ k. over k ws m) at)
     ∙ over_before_part 0 front ws m (omega arith)

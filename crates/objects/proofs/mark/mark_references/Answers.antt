@@ -7,7 +7,7 @@ loop-i-init c = mark_none c.args.first c.args.memory.now c.requires
 
 pub loop-i-preserved : goal.loop-i-preserved
 loop-i-preserved c =
-    c.mark-reference.ensures ∙ mark_more c.args.first c.loop-i.i c.args.memory.now c.loop-i.memory c.requires (omega arith) c.loop-i.invariant
+    c.mark_reference.ensures ∙ mark_more c.args.first c.loop-i.i c.args.memory.now c.loop-i.memory c.requires (omega arith) c.loop-i.invariant
 
 pub returns : goal.returns
 returns c = c.loop-i.invariant ∙ mark_all c.args.first c.loop-i.i c.args.memory.now c.requires (omega arith)

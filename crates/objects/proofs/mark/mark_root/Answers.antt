@@ -8,7 +8,7 @@ use Rattle.objects.proofs.mark.mark_root.Goals as goal
 pub returns-then-memory-ge-END : goal.returns-then-memory-ge-END
 returns-then-memory-ge-END c =
     let m = c.args.memory.now in
-    c.mark-reference.ensures
+    c.mark_reference.ensures
     ∙ sym (pick_false (ltb (length m) plan_end) m (with_map (with_reference c.args.first c.args.reference (map_of m)) m) (le-ltb (length m) plan_end c.if-memory-ge-END.true))
 
 pub returns-else-memory-ge-END : goal.returns-else-memory-ge-END

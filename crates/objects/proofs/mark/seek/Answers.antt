@@ -8,17 +8,17 @@ use Rattle.objects.proofs.mark.seek.Goals as goal
 pub returns-then-memory-lt-END : goal.returns-then-memory-lt-END
 returns-then-memory-lt-END c = sym (sought_short c.args.walk.now c.args.memory.now c.if-memory-lt-END.true)
 
-pub returns-in-default : goal.returns-in-default
-returns-in-default c =
+pub returns-in_default : goal.returns-in_default
+returns-in_default c =
     let w = c.args.walk.now in
     let m = c.args.memory.now in
-    sym (sought_is w m c.if-memory-lt-END.false ∙ ap (sought_at w m) (sym c.highest-below.ensures ∙ c.in-default.is))
+    sym (sought_is w m c.if-memory-lt-END.false ∙ ap (sought_at w m) (sym c.highest_below.ensures ∙ c.in_default.is))
 
 pub returns : goal.returns
 returns c =
     let w = c.args.walk.now in
     let m = c.args.memory.now in
     let u = c.in-Some.unit in
-    let e : c.saturating-mul.result ≡ capped (8 * capped (w.first + u)) = omega arith in
+    let e : c.saturating_mul.result ≡ capped (8 * capped (w.first + u)) = omega arith in
     ap (λ x. stride (walk w.first u w.weight w.kind w.key w.found) m (Some (Object x glance))) e
-    ∙ sym (sought_is w m c.if-memory-lt-END.false ∙ ap (sought_at w m) (sym c.highest-below.ensures ∙ c.in-Some.is))
+    ∙ sym (sought_is w m c.if-memory-lt-END.false ∙ ap (sought_at w m) (sym c.highest_below.ensures ∙ c.in-Some.is))

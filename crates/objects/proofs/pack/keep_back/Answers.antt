@@ -10,7 +10,7 @@ returns c =
     let m = c.args.memory.now in
     let at = 64 * c.args.page in
     let all : at + 64 - at ≡ 64 = omega arith in
-    let e : c.copy-from-slice-2.new.self ≡ take 64 (drop at m) =
-    c.copy-from-slice-2.ensures.after ∙ c.copy-from-slice.ensures.after ∙ ap (λ k. take k (drop at m)) all in
-    let l : length c.copy-from-slice-2.new.self ≡ 64 = ap length e ∙ length-take-le 64 (drop at m) (omega (arith, length-drop at m)) in
-    put_over rest_at 64 c.copy-from-slice-2.new.self m l ∙ ap (λ ws. over rest_at ws m) e
+    let e : c.copy_from_slice-2.new.self ≡ take 64 (drop at m) =
+    c.copy_from_slice-2.ensures.after ∙ c.copy_from_slice.ensures.after ∙ ap (λ k. take k (drop at m)) all in
+    let l : length c.copy_from_slice-2.new.self ≡ 64 = ap length e ∙ length-take-le 64 (drop at m) (omega (arith, length-drop at m)) in
+    put_over rest_at 64 c.copy_from_slice-2.new.self m l ∙ ap (λ ws. over rest_at ws m) e

@@ -6,7 +6,7 @@ use Rattle.objects.proofs.ranks.ones_in.Goals as goal
 
 pub loop-word-preserved : goal.loop-word-preserved
 loop-word-preserved c =
-    (omega (arith, sum_by_more ones c.args.words.now c.loop-word.word-index 0 (omega arith), c.ones-of-sum.ensures.value), omega arith)
+    (omega (arith, sum_by_more ones c.args.words.now c.loop-word.word-index 0 (omega arith), c.ones_of-sum.ensures.value), omega arith)
 
 pub returns : goal.returns
 returns c =

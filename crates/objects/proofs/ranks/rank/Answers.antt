@@ -6,5 +6,5 @@ returns-then-memory-lt-END c = rank_none c.args.memory.now c.args.unit c.if-memo
 
 pub returns : goal.returns
 returns c =
-    rank_from c.args.memory.now c.args.unit c.min-unit.result c.min-block.result c.ones-in-whole.result c.ones-below.result
-    c.if-memory-lt-END.false c.min-unit.ensures c.min-block.ensures c.ones-in-whole.ensures.value c.ones-below.ensures.value
+    rank_from c.args.memory.now c.args.unit c.min-unit.result c.min-block.result c.ones_in-whole.result c.ones_below.result
+    c.if-memory-lt-END.false c.min-unit.ensures c.min-block.ensures c.ones_in-whole.ensures.value c.ones_below.ensures.value

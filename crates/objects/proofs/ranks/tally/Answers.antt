@@ -12,8 +12,8 @@ loop-block-init c = (paste_none c.args.memory.now 172256 (counts 16384 (map_of c
 pub bounds-memory-block : goal.bounds-memory-block
 bounds-memory-block c = omega arith
 
-pub slice-bounds-ones-in-end : goal.slice-bounds-ones-in-end
-slice-bounds-ones-in-end c = simp length-set (omega arith)
+pub slice_bounds-ones_in-end : goal.slice_bounds-ones_in-end
+slice_bounds-ones_in-end c = simp length-set (omega arith)
 
 pub loop-block-preserved : goal.loop-block-preserved
 loop-block-preserved c =
@@ -21,13 +21,13 @@ loop-block-preserved c =
     let at : ℕ = 41184 + 8 * c.loop-block.block in
     let eight : at + 8 - at ≡ 8 = omega arith in (
       x.0,
-      ap (λ n. c.loop-block.sum + n) (c.ones-in-sum.ensures.value ∙ ap (λ n. sum_by ones (take n (drop at (set c.loop-block.memory (172256 + c.loop-block.block) c.loop-block.sum)))) eight) ∙ x.1,
+      ap (λ n. c.loop-block.sum + n) (c.ones_in-sum.ensures.value ∙ ap (λ n. sum_by ones (take n (drop at (set c.loop-block.memory (172256 + c.loop-block.block) c.loop-block.sum)))) eight) ∙ x.1,
       omega arith,
       simp length-set (omega arith),
     )
 
-pub shape-of-memory : goal.shape-of-memory
-shape-of-memory c = c.loop-block.invariant.3
+pub shape_of-memory : goal.shape_of-memory
+shape_of-memory c = c.loop-block.invariant.3
 
 pub returns-after-loop-block : goal.returns-after-loop-block
 returns-after-loop-block c = tally_all c.args.memory.now c.loop-block.memory c.loop-block.block (omega arith) (omega arith) c.loop-block.invariant.0

@@ -12,10 +12,10 @@ returns-then-memory-lt-END c = begun_short c.args.sweep.now c.args.memory.now c.
 pub returns : goal.returns
 returns c =
     let m = c.args.memory.now in
-    let first : c.saturating-mul.result ≡ capped (8 * get_or m head_at 0) = omega arith in
-    let below : c.saturating-mul-2.result ≡ capped (8 * (get_or m 41153 0 - get_or m head_at 0)) = omega arith in
+    let first : c.saturating_mul.result ≡ capped (8 * get_or m head_at 0) = omega arith in
+    let below : c.saturating_mul-2.result ≡ capped (8 * (get_or m 41153 0 - get_or m head_at 0)) = omega arith in
     c.met.ensures
     ∙ ap (marking (get_or m 41153 0))
     (c.seek-request.ensures
-    ∙ ap₂ sought (ap₂ (λ i j. walk i j 0 0 (key 0 0 0 0) 0) first below) (c.mark-roots.ensures ∙ ap (λ i. begun i (take 8 (drop 41154 m)) m) first))
+    ∙ ap₂ sought (ap₂ (λ i j. walk i j 0 0 (key 0 0 0 0) 0) first below) (c.mark_roots.ensures ∙ ap (λ i. begun i (take 8 (drop 41154 m)) m) first))
     ∙ begun_is c.args.sweep.now m c.if-memory-lt-END.false

@@ -8,5 +8,5 @@ use Rattle.objects.proofs.sweep.close.Goals as goal
 pub returns : goal.returns
 returns c =
     let s = c.args.sweep.now in
-    ap₂ (λ page m. swing (sweep Closing s.walk s.at s.from page 0) m (Some (Lay s.page 1))) c.saturating-add-sweep.ensures c.fill.ensures
+    ap₂ (λ page m. swing (sweep Closing s.walk s.at s.from page 0) m (Some (Lay s.page 1))) c.saturating_add-sweep.ensures c.fill.ensures
     ∙ closing_waits s.walk s.at s.from s.page s.waiting c.args.memory.now c.if-sweep-eq0.false

@@ -9,11 +9,11 @@ use Rattle.objects.proofs.sweep.compose_head.Goals as goal
 pub returns : goal.returns
 returns c =
     let m = c.args.memory.now in
-    let head = c.copy-from-slice.new.self in
-    let made = c.copy-from-slice-2.new.self in
-    let l : length c.copy-from-slice.new.self ≡ 32 = c.copy-from-slice.ensures.len in
+    let head = c.copy_from_slice.new.self in
+    let made = c.copy_from_slice-2.new.self in
+    let l : length c.copy_from_slice.new.self ≡ 32 = c.copy_from_slice.ensures.len in
     let e : made ≡ c.args.from ∷ c.args.page ∷ drop 2 head =
-    c.copy-from-slice-2.ensures.after ∙ two_set head c.args.from c.args.page (omega arith) in
-    let long : length made ≡ 32 = c.copy-from-slice-2.ensures.len ∙ length-take-le 32 m (omega arith) in
-    new_head_is c.args.first c.args.from c.args.page m head (put_mid 0 32 m made) c.rename.new.memory c.copy-from-slice.ensures.after
+    c.copy_from_slice-2.ensures.after ∙ two_set head c.args.from c.args.page (omega arith) in
+    let long : length made ≡ 32 = c.copy_from_slice-2.ensures.len ∙ length-take-le 32 m (omega arith) in
+    new_head_is c.args.first c.args.from c.args.page m head (put_mid 0 32 m made) c.rename.new.memory c.copy_from_slice.ensures.after
     (put_over 0 32 made m long ∙ ap (λ ws. over 0 ws m) e) c.rename.ensures

@@ -9,21 +9,21 @@ pub returns-then-pages-eq0 : goal.returns-then-pages-eq0
 returns-then-pages-eq0 c =
     let s = c.args.sweep.now in
     let waiting = (c.min-2.result + c.min-3.result) % 64 in
-    c.copy-next.ensures
-    ∙ laying_none s.walk c.saturating-add-sweep.result s.from s.page waiting c.pack-pages.new.memory c.pack-pages.result c.if-pages-eq0.true
-    ∙ copied_came s c.args.memory.now c.size-in.result c.min.result c.rename.new.memory c.pack-pages.new.memory c.pack-pages.result
-    c.saturating-add-sweep.result c.min-2.result c.min-3.result c.requires c.size-in.ensures
+    c.copy_next.ensures
+    ∙ laying_none s.walk c.saturating_add-sweep.result s.from s.page waiting c.pack-pages.new.memory c.pack-pages.result c.if-pages-eq0.true
+    ∙ copied_came s c.args.memory.now c.size_in.result c.min.result c.rename.new.memory c.pack-pages.new.memory c.pack-pages.result
+    c.saturating_add-sweep.result c.min-2.result c.min-3.result c.requires c.size_in.ensures
     (c.min.ensures ∙ ap (λ n. min n 4096) c.references_in.ensures) c.rename.ensures (omega arith) c.pack-pages.ensures.memory c.pack-pages.ensures.pages
-    c.saturating-add-sweep.ensures c.min-2.ensures c.min-3.ensures
+    c.saturating_add-sweep.ensures c.min-2.ensures c.min-3.ensures
 
 pub returns : goal.returns
 returns c =
     let s = c.args.sweep.now in
     let waiting = (c.min-2.result + c.min-3.result) % 64 in
-    ap (λ p. swing (sweep Laying s.walk c.saturating-add-sweep.result s.from p waiting) c.pack-pages.new.memory (Some (Lay s.page c.pack-pages.result)))
-    c.saturating-add-sweep-2.ensures
-    ∙ laying_some s.walk c.saturating-add-sweep.result s.from s.page waiting c.pack-pages.new.memory c.pack-pages.result c.if-pages-eq0.false
-    ∙ copied_came s c.args.memory.now c.size-in.result c.min.result c.rename.new.memory c.pack-pages.new.memory c.pack-pages.result
-    c.saturating-add-sweep.result c.min-2.result c.min-3.result c.requires c.size-in.ensures
+    ap (λ p. swing (sweep Laying s.walk c.saturating_add-sweep.result s.from p waiting) c.pack-pages.new.memory (Some (Lay s.page c.pack-pages.result)))
+    c.saturating_add-sweep-2.ensures
+    ∙ laying_some s.walk c.saturating_add-sweep.result s.from s.page waiting c.pack-pages.new.memory c.pack-pages.result c.if-pages-eq0.false
+    ∙ copied_came s c.args.memory.now c.size_in.result c.min.result c.rename.new.memory c.pack-pages.new.memory c.pack-pages.result
+    c.saturating_add-sweep.result c.min-2.result c.min-3.result c.requires c.size_in.ensures
     (c.min.ensures ∙ ap (λ n. min n 4096) c.references_in.ensures) c.rename.ensures (omega arith) c.pack-pages.ensures.memory c.pack-pages.ensures.pages
-    c.saturating-add-sweep.ensures c.min-2.ensures c.min-3.ensures
+    c.saturating_add-sweep.ensures c.min-2.ensures c.min-3.ensures

@@ -3,8 +3,8 @@ use Rattle.objects.specs.Sweeping.{swing}
 use Rattle.objects.proofs.SweepSteps.{copying_none}
 use Rattle.objects.proofs.sweep.copy_next.Goals as goal
 
-pub returns-in-default : goal.returns-in-default
-returns-in-default c =
+pub returns-in_default : goal.returns-in_default
+returns-in_default c =
     let s = c.args.sweep.now in
-    copying_none s.walk s.at s.from s.page s.waiting c.args.memory.now c.lowest-from.result c.requires c.lowest-from.ensures c.in-default.is
+    copying_none s.walk s.at s.from s.page s.waiting c.args.memory.now c.lowest_from.result c.requires c.lowest_from.ensures c.in_default.is
     (swing c.close.new.sweep c.close.new.memory (Some c.close.result)) c.close.ensures

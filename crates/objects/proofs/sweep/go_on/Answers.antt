@@ -13,7 +13,7 @@ pub returns-in-Copying : goal.returns-in-Copying
 returns-in-Copying c = c.copy.ensures ∙ went_on_at c.args.sweep.now c.args.memory.now Copying c.if-memory-lt-END.false c.in-Copying.is
 
 pub returns-in-Laying : goal.returns-in-Laying
-returns-in-Laying c = c.copy-next.ensures ∙ went_on_at c.args.sweep.now c.args.memory.now Laying c.if-memory-lt-END.false c.in-Laying.is
+returns-in-Laying c = c.copy_next.ensures ∙ went_on_at c.args.sweep.now c.args.memory.now Laying c.if-memory-lt-END.false c.in-Laying.is
 
 pub returns-in-Closing : goal.returns-in-Closing
 returns-in-Closing c = c.publish.ensures ∙ went_on_at c.args.sweep.now c.args.memory.now Closing c.if-memory-lt-END.false c.in-Closing.is

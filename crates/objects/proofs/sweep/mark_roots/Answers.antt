@@ -8,7 +8,7 @@ loop-i-init c = roots_none c.args.first c.args.memory.now c.unmark.new.memory c.
 
 pub loop-i-preserved : goal.loop-i-preserved
 loop-i-preserved c =
-    c.mark-root.ensures ∙ roots_more c.args.first c.loop-i.i c.unmark.new.memory c.loop-i.memory (omega arith) c.loop-i-test.true c.loop-i.invariant
+    c.mark_root.ensures ∙ roots_more c.args.first c.loop-i.i c.unmark.new.memory c.loop-i.memory (omega arith) c.loop-i-test.true c.loop-i.invariant
 
 pub returns : goal.returns
 returns c =

@@ -11,8 +11,8 @@ pub returns : goal.returns
 returns c =
     let k = c.args.self.now in
     let m = c.args.memory.now in
-    let head = c.copy-from-slice-2.new.self in
-    let e : head ≡ take 32 m = c.copy-from-slice-2.ensures.after ∙ c.copy-from-slice.ensures.after in
+    let head = c.copy_from_slice-2.new.self in
+    let e : head ≡ take 32 m = c.copy_from_slice-2.ensures.after ∙ c.copy_from_slice.ensures.after in
     let long : length head ≡ 32 = ap length e ∙ length-take-le 32 m (omega arith) in
     c.swept.ensures c.begin-request.new.memory
     ∙ ap (swung (sweeping k.walk) (swept k.walk))

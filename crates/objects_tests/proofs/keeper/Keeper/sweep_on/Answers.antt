@@ -6,4 +6,4 @@ use Rattle.objects_tests.proofs.keeper.Keeper.sweep_on.Goals as goal
 pub returns : goal.returns
 returns c =
     let w = c.args.self.now.walk in
-    c.swept.ensures c.go-on-request.new.memory ∙ ap (swung (sweeping w) (swept w)) c.go-on-request.ensures
+    c.swept.ensures c.go_on-request.new.memory ∙ ap (swung (sweeping w) (swept w)) c.go_on-request.ensures

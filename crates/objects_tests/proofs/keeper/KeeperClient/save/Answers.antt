@@ -9,4 +9,4 @@ returns c =
     let k = c.args.self.now in
     let s = k.sweep in
     ap₂ (λ p g. p ∷ (walk_cells k.walk ++ (g ∷ s.at ∷ s.from ∷ s.page ∷ s.waiting ∷ walk_cells s.walk ++ zeros 96))) c.phase_code.ensures
-    c.stage-code.ensures
+    c.stage_code.ensures
