@@ -1,4 +1,6 @@
 // A house on a file of pages, with its commands on standard input.
+#![tactic(auto)]
+
 mod driver;
 mod escape;
 mod hex;
