@@ -1,12 +1,12 @@
 -- What comes before a commit: the members of added, closed and back, and what two commits have in common.
-use Rattle.std.proofs.Common.{◌≡◌, ℕ, zero, suc, ◌+◌, ◌-◌, ◌<◌, ◌≤◌, Bool, true, false, not, ◌&&◌, eqb, ltb, leb, ◌⊎◌, List, [], ◌∷◌, ◌++◌, length, sym, refl, ap, ◌∙◌, subst, inl, inr, ⊎_elim, suc-add, zero-add, arith, length-append}
-use Rattle.std.proofs.lemmas.Bool.{true≢false, false≢true, and_parts, and_from, not-true, not_from_true, not_from_false, eqb-true, eqb-false, eq-eqb, ne_eqb, cases_lt, cases_eq}
-use Rattle.pages.specs.Lists.{pick, or, every, any, each, those, flat, same, has}
-use Rattle.pages.proofs.ListLaws.{pick_both, pick_true, pick_false, false_unless, or_cases, In, in_left, in_right, in_append, every_in, every_from, any_in, any_from, any_none, none_any, has_in, in_has, has_not, has_alike, those_in, in_those, flat_in, in_flat, Once, once_end, once_those, once_length}
+use Rattle.std.proofs.Common.{◌≡◌, ℕ, zero, suc, ◌+◌, ◌<◌, ◌≤◌, Bool, true, false, not, ◌&&◌, eqb, ◌⊎◌, List, [], ◌∷◌, ◌++◌, length, sym, refl, ap, ◌∙◌, subst, inl, inr, ⊎_elim, arith}
+use Rattle.std.proofs.lemmas.Bool.{true≢false, and_parts, and_from, not-true, not_from_false, eqb-false, ne_eqb, cases_eq}
+use Rattle.pages.specs.Lists.{pick, every, any, flat, has}
+use Rattle.pages.proofs.ListLaws.{pick_both, pick_true, false_unless, In, in_left, in_right, in_append, every_in, every_from, any_in, any_from, none_any, has_in, in_has, has_not, has_alike, those_in, in_those, flat_in, in_flat, Once, once_end, once_those, once_length}
 use Rattle.std.proofs.lemmas.Bool.Decides.{Decides-eqb}
-use Rattle.history.specs.Book.{Commit, Book, Sum, nth, up_to, added, closed, back, under, common, latest_common}
+use Rattle.history.specs.Book.{Book, nth, up_to, added, closed, back, under, common, latest_common}
 use Rattle.history.specs.Laws.{Grown, each_once, LatestRight, BackRight, UnderRight}
-use Rattle.history.proofs.BookLaws.{nth_beyond, parent_lower, parent_within, in_up_to, up_to_in, once_up_to, length_up_to}
+use Rattle.history.proofs.BookLaws.{parent_lower, parent_within, in_up_to, once_up_to, length_up_to}
 
 -- ADDED
 

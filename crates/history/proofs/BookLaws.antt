@@ -1,11 +1,11 @@
 -- Laws of the book: what stands at a number, where a commit is placed, that ids tell commits apart.
-use Rattle.std.proofs.Common.{◌≡◌, ℕ, zero, suc, ◌+◌, ◌-◌, ◌<◌, ◌≤◌, Bool, true, false, not, ◌&&◌, eqb, ltb, leb, ◌⊎◌, List, [], ◌∷◌, ◌++◌, length, Decides, sym, refl, ap, ◌∙◌, subst, inl, inr, ⊎_elim, append-nil, arith, length-append}
-use Rattle.std.proofs.lemmas.Bool.{true≢false, false≢true, and_parts, and_from, not-true, not_from_true, eqb-true, eq-eqb, ltb-true, ltb-false, lt-ltb, le-ltb, cases_lt}
-use Rattle.pages.specs.Lists.{pick, or, every, any, each, flat, same, has}
-use Rattle.pages.proofs.ListLaws.{pick_both, pick_true, pick_false, false_unless, or_cases, In, in_left, in_right, in_append, every_in, every_from, Once, once_end, same_true, same_refl, same_from}
-use Rattle.trees.specs.Tree.{Tree, same_tree}
+use Rattle.std.proofs.Common.{◌≡◌, ℕ, zero, suc, ◌+◌, ◌<◌, ◌≤◌, true, not, ◌&&◌, eqb, ltb, [], ◌∷◌, ◌++◌, length, Decides, sym, refl, ap, ◌∙◌, subst, inl, inr, ⊎_elim, append-nil, arith, length-append}
+use Rattle.std.proofs.lemmas.Bool.{true≢false, and_parts, and_from, not-true, eqb-true, eq-eqb, ltb-true, ltb-false, cases_lt}
+use Rattle.pages.specs.Lists.{or, every, same}
+use Rattle.pages.proofs.ListLaws.{pick_both, or_cases, In, in_left, in_right, in_append, every_in, Once, once_end, same_true, same_refl}
+use Rattle.trees.specs.Tree.{same_tree}
 use Rattle.trees.proofs.TreeLaws.{same_tree_true, same_tree_refl}
-use Rattle.history.specs.Book.{Commit, Book, Sum, nth, no_commit, id, up_to, clear, all_files, same_commit, place, noted}
+use Rattle.history.specs.Book.{Commit, Book, nth, no_commit, id, up_to, clear, same_commit, place, noted}
 use Rattle.history.specs.Laws.{Grown, IdsTell}
 
 -- WHAT STANDS AT A NUMBER

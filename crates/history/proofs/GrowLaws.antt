@@ -1,14 +1,14 @@
 -- What stands in the book stays as it is when more comes behind it.
-use Rattle.std.proofs.Common.{◌≡◌, ℕ, zero, suc, ◌+◌, ◌-◌, ◌<◌, ◌≤◌, Bool, true, false, not, ◌&&◌, eqb, ltb, leb, ◌⊎◌, List, [], ◌∷◌, ◌++◌, length, sym, refl, ap, ◌∙◌, subst, inl, inr, ⊎_elim, suc-add, zero-add, arith, length-append}
+use Rattle.std.proofs.Common.{◌≡◌, ℕ, zero, suc, ◌+◌, ◌<◌, ◌≤◌, Bool, true, false, not, ◌&&◌, eqb, ltb, ◌⊎◌, List, [], ◌∷◌, ◌++◌, length, sym, refl, ap, ◌∙◌, subst, inl, inr, ⊎_elim, suc-add, zero-add, arith, length-append}
 use Rattle.std.proofs.lemmas.Bool.{ltb-true}
 use Rattle.std.proofs.lemmas.Bool.Decides.{Decides-eqb}
-use Rattle.pages.specs.Lists.{pick, or, every, any, each, those, flat, has, earlier}
+use Rattle.pages.specs.Lists.{pick, any, each, those, flat, has, earlier}
 use Rattle.pages.proofs.ListLaws.{In, every_in, flat_in, each_alike, flat_alike, those_alike, any_alike, those_in, Once, once_those, once_length_but}
-use Rattle.history.specs.Book.{Commit, Book, Sum, nth, id, id_within, commit_spelled, added, closed, back, under, common, latest_common, sooner, soonest, next_of, free, in_order, log}
+use Rattle.history.specs.Book.{Commit, Book, Sum, nth, id, id_within, commit_spelled, added, closed, back, under, sooner, soonest, next_of, free, in_order, log}
 use Rattle.history.specs.Laws.{Grown, GrowsBehind}
 use Rattle.history.proofs.BookLaws.{nth_front, parent_lower}
-use Rattle.history.proofs.BackLaws.{added_in, added_none, Comes, closed_in, back_in, back_parents, once_back, once_few, back_within, comes_lower}
-use Rattle.history.proofs.LogLaws.{Free, one_turn, free_in, soonest_in, in_order_none, in_order_one}
+use Rattle.history.proofs.BackLaws.{added_in, added_none, back_parents, once_back, once_few, back_within}
+use Rattle.history.proofs.LogLaws.{Free, one_turn, free_in, in_order_none, in_order_one}
 
 -- two books that have the same commits up to a number, and the parents of those below it are below it
 pub record Agree (n : ℕ) (b d : Book) : Type 0 where

@@ -1,10 +1,10 @@
 -- The order of a log.
-use Rattle.std.proofs.Common.{◌≡◌, ℕ, zero, suc, ◌+◌, ◌-◌, ◌<◌, ◌≤◌, Bool, true, false, not, ◌&&◌, eqb, ltb, leb, ◌⊎◌, List, [], ◌∷◌, ◌++◌, length, sym, refl, ap, ◌∙◌, subst, inl, inr, ⊎_elim, arith, length-append}
-use Rattle.std.proofs.lemmas.Bool.{true≢false, false≢true, and_parts, and_from, not-true, not_from_true, not_from_false, eqb-true, eqb-false, eq-eqb, ne_eqb, cases_lt, cases_eq}
+use Rattle.std.proofs.Common.{◌≡◌, ℕ, zero, suc, ◌<◌, ◌≤◌, Bool, true, false, not, ◌&&◌, eqb, ◌⊎◌, List, [], ◌∷◌, ◌++◌, length, sym, refl, ap, ◌∙◌, subst, inl, inr, ⊎_elim, arith}
+use Rattle.std.proofs.lemmas.Bool.{true≢false, and_parts, and_from, not-true, not_from_false, eqb-false, ne_eqb, cases_lt, cases_eq}
 use Rattle.std.proofs.lemmas.Bool.Decides.{Decides-eqb}
 use Rattle.pages.specs.Lists.{pick, or, any, those, has}
 use Rattle.pages.proofs.ListLaws.{pick_both, false_unless, In, any_from, none_any, has_alike, those_in, in_those, those_alike, Once, once_those, once_length_but}
-use Rattle.history.specs.Book.{Commit, Book, Sum, nth, back, under, sooner, soonest, next_of, free, in_order, log}
+use Rattle.history.specs.Book.{Book, Sum, back, under, sooner, soonest, next_of, free, in_order, log}
 use Rattle.history.specs.Laws.{Grown, nth_or, LogOrder}
 use Rattle.history.proofs.BackLaws.{under_lower, back_within, once_back, once_few}
 

@@ -1,5 +1,5 @@
 -- All commits there ever were, numbered as they came; their ids; which come before which. Assumes nothing: these are definitions.
-use Rattle.std.specs.Prelude.{◌≡◌, ℕ, zero, suc, ◌+◌, ◌-◌, ◌*◌, ◌/◌, ◌%◌, ◌<◌, ◌≤◌, Bool, true, false, not, ◌&&◌, List, [], ◌∷◌, ◌++◌, length, ◌==◌, nat_lt}
+use Rattle.std.specs.Prelude.{ℕ, zero, suc, Bool, true, not, ◌&&◌, List, [], ◌∷◌, ◌++◌, length, ◌==◌, nat_lt}
 use Rattle.pages.specs.Lists.{pick, or, every, any, each, those, flat, same, earlier, has}
 use Rattle.pages.specs.Bytes.{eight, with_length}
 use Rattle.trees.specs.Tree.{Tree, File, same_tree}

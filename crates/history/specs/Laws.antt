@@ -1,5 +1,5 @@
 -- What a log, the latest common commits and ids promise, as statements: each is a type whose proof stands on a contract of this crate.
-use Rattle.std.specs.Prelude.{◌≡◌, ℕ, zero, suc, ◌+◌, ◌-◌, ◌*◌, ◌/◌, ◌%◌, ◌<◌, ◌≤◌, Bool, true, false, not, ◌&&◌, List, [], ◌∷◌, ◌++◌, length, nat_lt}
+use Rattle.std.specs.Prelude.{◌≡◌, ℕ, zero, suc, ◌<◌, ◌≤◌, Bool, true, false, not, ◌&&◌, List, [], ◌∷◌, ◌++◌, length, nat_lt}
 use Rattle.pages.specs.Lists.{every, any, same, has}
 use Rattle.history.specs.Book.{Book, Sum, nth, id, clear, back, under, common, latest_common, log}
 

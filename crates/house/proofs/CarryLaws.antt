@@ -1,16 +1,16 @@
 -- Commits of a chain carried onto one that changed other paths.
-use Rattle.std.proofs.Common.{◌≡◌, ℕ, zero, suc, ◌+◌, ◌<◌, ◌≤◌, Bool, true, false, not, ◌&&◌, ltb, leb, ◌⊎◌, List, [], ◌∷◌, ◌++◌, length, sym, refl, ap, ◌∙◌, subst, inl, inr, ⊎_elim, arith}
-use Rattle.std.proofs.lemmas.Bool.{true≢false, false≢true, and_parts, and_from, not_from_true, ltb-true, leb-true, le-leb}
-use Rattle.pages.specs.Lists.{pick, or, every, those, same, none_of}
-use Rattle.pages.proofs.ListLaws.{pick_both, pick_true, pick_false, false_unless, or_cases, In, those_none, same_true}
-use Rattle.trees.specs.Tree.{Tree, found, alike, changed, clash, joined, joined_at, clashes, both, paths, rising_paths, same_tree}
-use Rattle.trees.proofs.TreeLaws.{alike_true, alike_refl, alike_from, alike_sym, found_one, found_in, in_found, in_both_left, in_both_right, both_rising, length_within, same_tree_true}
+use Rattle.std.proofs.Common.{◌≡◌, ℕ, ◌<◌, ◌≤◌, Bool, true, false, not, ◌&&◌, ltb, leb, List, [], ◌∷◌, length, sym, refl, ap, ◌∙◌, subst, ⊎_elim, arith}
+use Rattle.std.proofs.lemmas.Bool.{true≢false, and_parts, and_from, not_from_true, ltb-true, leb-true, le-leb}
+use Rattle.pages.specs.Lists.{pick, every, same, none_of}
+use Rattle.pages.proofs.ListLaws.{pick_both, pick_true, pick_false, or_cases, In, those_none, same_true}
+use Rattle.trees.specs.Tree.{Tree, found, alike, changed, clash, joined, joined_at, clashes, both, paths, rising_paths}
+use Rattle.trees.proofs.TreeLaws.{alike_true, alike_from, alike_sym, found_one, found_in, in_found, in_both_left, in_both_right, both_rising, length_within, same_tree_true}
 use Rattle.trees.proofs.JoinLaws.{joined_found, joined_rising, one_side_at, clash_sym}
-use Rattle.history.specs.Book.{Book, Commit, nth, noted, place}
+use Rattle.history.specs.Book.{Book, Commit, nth, noted}
 use Rattle.history.proofs.BookLaws.{nth_front, nth_noted, noted_more}
 use Rattle.house.specs.House.{Way, tree_of, carry_one, carry_all, parent_tree, carried_tree}
 use Rattle.house.specs.Laws.{chain, last_or, CarriedJoined}
-use Rattle.house.proofs.TurnLaws.{Grows, grows_self, grows_trans, carry_either, once_more, went, goes, set_out}
+use Rattle.house.proofs.TurnLaws.{Grows, grows_self, grows_trans, carry_either, once_more, goes, set_out}
 
 -- unchanged from the one tree both came from
 pub unchanged_from : (base : Tree) (here : List (List ℕ)) (p : List ℕ) → found base p ≡ here → changed (base ∷ []) here p ≡ false

@@ -1,19 +1,19 @@
 -- What every turn keeps.
-use Rattle.std.proofs.Common.{◌≡◌, ℕ, zero, suc, ◌+◌, ◌<◌, ◌≤◌, Bool, true, false, not, ◌&&◌, eqb, ltb, leb, ◌⊎◌, List, [], ◌∷◌, ◌++◌, length, sym, refl, ap, ◌∙◌, subst, inl, inr, ⊎_elim, append-nil, arith, lit<, lit≤, length-append}
-use Rattle.std.proofs.lemmas.Bool.{true≢false, false≢true, and_parts, and_from, not-true, not_from_false, ltb-true, ltb-false, lt-ltb, leb-true, le-leb, eqb-true, eqb-false, eq-eqb, cases_lt, cases_eq}
-use Rattle.pages.specs.Lists.{pick, or, every, any, each, those, flat, same, none_of, first_or, so_many}
+use Rattle.std.proofs.Common.{◌≡◌, ℕ, zero, suc, ◌+◌, ◌<◌, ◌≤◌, Bool, true, false, not, ◌&&◌, eqb, ltb, leb, ◌⊎◌, List, [], ◌∷◌, ◌++◌, length, sym, refl, ap, ◌∙◌, subst, inl, inr, ⊎_elim, arith, lit<, lit≤, length-append}
+use Rattle.std.proofs.lemmas.Bool.{true≢false, false≢true, and_parts, and_from, not-true, not_from_false, ltb-true, ltb-false, lt-ltb, leb-true, le-leb, eqb-false, cases_lt}
+use Rattle.pages.specs.Lists.{pick, or, every, any, each, those, same, none_of, first_or, so_many}
 use Rattle.pages.specs.Bytes.{all_bytes}
-use Rattle.pages.proofs.ListLaws.{pick_both, false_unless, In, in_left, in_right, in_append, every_in, every_from, every_append, every_those, every_each, any_in, any_from, each_in, in_each, those_in, in_those, each_append, Once, once_those, once_append, once_append_parts, once_each_those, length_those, length_each, or_parts, first_or_every, same_true, same_false, same_from, same_refl}
-use Rattle.trees.specs.Tree.{Tree, File, put, without, joined, clashes, paths, both, rising_paths, found, same_tree}
+use Rattle.pages.proofs.ListLaws.{pick_both, false_unless, In, in_left, in_right, every_in, every_from, every_append, every_those, every_each, any_in, any_from, each_in, in_each, those_in, each_append, Once, once_those, once_append, once_append_parts, once_each_those, length_those, or_parts, first_or_every, same_true, same_false, same_refl}
+use Rattle.trees.specs.Tree.{Tree, File, put, without, joined, clashes, paths, rising_paths, found, same_tree}
 use Rattle.trees.proofs.TreeLaws.{put_rising, without_rising, put_every, without_every, length_without}
 use Rattle.trees.proofs.JoinLaws.{joined_rising, joined_every, once_clashes, clashes_few, clashes_in}
-use Rattle.history.specs.Book.{Book, Commit, Sum, nth, no_commit, id, noted, place, back, under, latest_common, log}
+use Rattle.history.specs.Book.{Book, Commit, Sum, nth, no_commit, noted, under, latest_common}
 use Rattle.history.specs.Laws.{Grown}
 use Rattle.history.proofs.BookLaws.{nth_front, nth_beyond, nth_end, nth_in, length_more, noted_either, place_noted, place_new, noted_more}
 use Rattle.commands.specs.Command.{Command, write_file, drop_file, commit, branch, go_to, history, show_file, status, read_file, join, settle, leave, move_onto, carry, forget, tag, who, sweep, fetch, fits, a_name, a_ref, a_text}
-use Rattle.house.specs.House.{Plain, Clone, Ref, Turn, Way, turn, no, yes_with, clone_at, set_clone, empty_clone, ref_of, set_ref, without_ref, all_refs, tip, tree_of, clean, with_work, moved, drop_path, carry_one, carry_all, parent_tree, carried_tree, ours_alone, single, reached, by_id, far, is_far}
+use Rattle.house.specs.House.{Plain, Clone, Ref, Turn, Way, turn, no, yes_with, clone_at, empty_clone, ref_of, set_ref, without_ref, all_refs, tip, tree_of, clean, with_work, moved, drop_path, carry_one, carry_all, ours_alone, single, reached, by_id, far, is_far}
 use Rattle.house.specs.Facts.{all_differ, a_file, FineTree, FineCommit, FineBook, FineRefs, FineNames, FineWork, FineClone, Fine, StaysFine}
-use Rattle.house.proofs.TurnLaws.{Grows, grows_self, grows_carry_one, grows_carry_all, carry_either, once_more, went, stuck, goes, set_out, clone_at_either}
+use Rattle.house.proofs.TurnLaws.{Grows, grows_self, grows_carry_one, grows_carry_all, carry_either, once_more, went, set_out, clone_at_either}
 
 -- ROWS THAT DIFFER
 

@@ -1,5 +1,5 @@
 -- The morning, computed: every command of the table at once.
-use Rattle.std.proofs.Common.{◌≡◌, ℕ, true, refl}
+use Rattle.std.proofs.Common.{refl}
 use Rattle.pages.specs.Lists.{same, earlier, so_many, distinct, added_up}
 use Rattle.pages.specs.Bytes.{in_bytes, all_bytes}
 use Rattle.trees.specs.Tree.{found, alike, put, without, set, same_tree, changed, clash, joined_at, joined_over, both, mark}

@@ -1,25 +1,24 @@
 -- The house that knows no command yet keeps the whole promise. Assumes nothing.
-use Rattle.std.proofs.Common.{◌≡◌, ℕ, zero, suc, ◌+◌, ◌-◌, ◌<◌, ◌≤◌, min, Bool, true, false, ◌&&◌, eqb, ltb, ◌⊎◌, List, [], ◌∷◌, ◌++◌, length, get_or, Some, None, Option, sym, refl, ap, ◌∙◌, subst, inl, inr, arith}
+use Rattle.std.proofs.Common.{◌≡◌, ℕ, zero, suc, ◌-◌, ◌<◌, ◌≤◌, Bool, true, eqb, List, [], ◌∷◌, length, get_or, Some, None, Option, sym, refl, ap, ◌∙◌, subst, inl, inr, arith}
 use Rattle.std.proofs.lemmas.Bool.{false≢true}
 use Rattle.pages.specs.Lists.{every, zeros}
 use Rattle.pages.specs.Words.{small}
-use Rattle.pages.specs.Crash.{Rows}
-use Rattle.pages.specs.Engine.{engine, bulk_cells, Lawful, Small}
-use Rattle.pages.specs.Machine.{Asked, capped}
+use Rattle.pages.specs.Engine.{engine, Lawful}
+use Rattle.pages.specs.Machine.{capped}
 use Rattle.pages.specs.Device.{blank}
 use Rattle.pages.specs.Tape.{last_page, Tied, finishes}
-use Rattle.pages.proofs.WordLaws.{small_from, small_getD, small_zeros, small_first, length_zeros}
+use Rattle.pages.proofs.WordLaws.{small_from, small_getD, small_zeros, length_zeros}
 use Rattle.pages.proofs.EngineLaws.{keeps_length, keeps_small}
 use Rattle.pages.proofs.TapeLaws.{tied_new}
 use Rattle.history.specs.Book.{Sum}
-use Rattle.commands.specs.Command.{Command, nothing, spelled, fits}
+use Rattle.commands.specs.Command.{Command, nothing}
 use Rattle.commands.specs.Parse.{parsed, Answers}
 use Rattle.commands.proofs.ParseLaws.{answered}
 use Rattle.house.specs.House.{Plain}
-use Rattle.house.specs.Promise.{Never, Said, Allowed, StillApart, Steady, Whole, Item}
-use Rattle.house.specs.Simulation.{Setting, Turned, Obligations, Simulated, at_first}
-use Rattle.house.specs.OnTape.{Holding, StopStands, EndStands, Answered, Kept}
-use Rattle.house.specs.Client.{registers, house_client, house_saves, house_loads, refusal_of}
+use Rattle.house.specs.Promise.{Said, Allowed, Steady, Whole}
+use Rattle.house.specs.Simulation.{Setting, Turned, Simulated}
+use Rattle.house.specs.OnTape.{Holding, StopStands, EndStands, Kept}
+use Rattle.house.specs.Client.{registers, house_client, house_saves, refusal_of}
 use Rattle.house.specs.Entry.{own}
 use Rattle.house.specs.declared.client.Registers.{Registers}
 use Rattle.house.proofs.Simulation.{simulated}

@@ -1,17 +1,16 @@
 -- What is shown of a client on its tape, one command at a time, gives the obligations of a house. Assumes nothing.
-use Rattle.std.proofs.Common.{◌≡◌, ℕ, zero, suc, ◌+◌, ◌-◌, ◌*◌, ◌<◌, ◌≤◌, min, max, Bool, true, false, eqb, ◌⊎◌, List, [], ◌∷◌, ◌++◌, length, take, sym, refl, ap, ◌∙◌, subst, subst₂, inl, inr, arith}
+use Rattle.std.proofs.Common.{◌≡◌, ℕ, suc, ◌-◌, ◌*◌, ◌<◌, ◌≤◌, min, max, Bool, true, false, eqb, ◌⊎◌, List, [], ◌∷◌, ◌++◌, length, sym, refl, ap, ◌∙◌, subst, subst₂, inl, inr, arith}
 use Rattle.std.proofs.lemmas.List.{take-take, take_all}
 use Rattle.std.proofs.lemmas.Bool.{false≢true, eqb-false}
-use Rattle.pages.specs.Lists.{pick, zeros}
+use Rattle.pages.specs.Lists.{zeros}
 use Rattle.pages.specs.Bytes.{from_bytes}
 use Rattle.pages.specs.Words.{small}
-use Rattle.pages.specs.Device.{Device, stopped}
-use Rattle.pages.specs.Run.{World, Event, on, said, done}
+use Rattle.pages.specs.Device.{Device}
+use Rattle.pages.specs.Run.{World, on, said, done}
 use Rattle.pages.specs.Crash.{Rows, stepped, Goes, ends}
-use Rattle.pages.specs.Engine.{Housed, Lawful, image, stored, engine, memory_cells, bulk_cells}
+use Rattle.pages.specs.Engine.{Housed, Lawful, image, stored, engine, bulk_cells}
 use Rattle.pages.specs.Machine.{served}
-use Rattle.pages.specs.Tape.{last_page, published, Window, Tied, Safe, Held, OnTheDevice}
-use Rattle.pages.specs.declared.machine.Machine.{Machine}
+use Rattle.pages.specs.Tape.{last_page, published, Tied, Safe, Held, OnTheDevice}
 use Rattle.pages.specs.declared.machine.Serving.TheVariants.{Idle}
 use Rattle.pages.proofs.ListLaws.{pick_both}
 use Rattle.pages.proofs.WordLaws.{zeros_append, length_zeros, small_zeros}
@@ -20,7 +19,7 @@ use Rattle.pages.proofs.TapeLaws.{tied_stopped, tied_again}
 use Rattle.pages.proofs.EngineLaws.{step_image}
 use Rattle.pages.proofs.Sound.{on_the_device}
 use Rattle.house.specs.House.{Plain}
-use Rattle.house.specs.Promise.{Never, StillApart, Allowed, peer, powered, no_world}
+use Rattle.house.specs.Promise.{Never, StillApart, peer, powered, no_world}
 use Rattle.house.specs.Simulation.{Setting, lightless, Relation, PeerHolds, Cut, Over, Outcome, WokenCut, Woken, Turned, Obligations}
 use Rattle.house.specs.OnTape.{Resident, Holding, StopStands, EndStands, Answered, Kept}
 use Rattle.house.proofs.Simulation.{allowed_next}

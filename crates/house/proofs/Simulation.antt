@@ -1,17 +1,15 @@
 -- From the obligations about one house at a time to the promise for all houses and all lists of what may happen. Assumes nothing.
-use Rattle.std.proofs.Common.{◌≡◌, ℕ, zero, suc, ◌<◌, ◌≤◌, Bool, true, false, ◌&&◌, ltb, ◌⊎◌, List, [], ◌∷◌, ◌++◌, length, get_or, set, sym, refl, ap, ◌∙◌, subst, subst₂, inl, inr, arith, length-set, get_or-set_other, get_or-set_same}
+use Rattle.std.proofs.Common.{◌≡◌, ℕ, zero, suc, ◌<◌, Bool, true, false, ltb, ◌⊎◌, List, [], ◌∷◌, ◌++◌, length, get_or, set, sym, refl, ap, ◌∙◌, subst, subst₂, inl, inr, arith, length-set, get_or-set_other, get_or-set_same}
 use native.Mathlib.Decide.{ℕ_discrete}
-use lib.Seq.{set-get_or, set_out}
+use lib.Seq.{set-get_or}
 use Rattle.std.proofs.lemmas.Bool.{ltb-true, and_parts}
 use Rattle.pages.specs.Lists.{pick, so_many}
-use Rattle.pages.specs.Device.{Device}
-use Rattle.pages.specs.Run.{Engine, Event, on, said, World, Ran, runs}
+use Rattle.pages.specs.Run.{on, World, Ran}
 use Rattle.pages.specs.Crash.{Rows, Goes, Ended, Stoppable}
 use Rattle.pages.proofs.Crash.{ends_well, stops_well}
-use Rattle.commands.specs.Command.{Command}
-use Rattle.house.specs.House.{Plain, empty_clone, clone_at, turn}
-use Rattle.house.specs.Promise.{Never, Said, StillApart, KnownAllowed, Allowed, Item, power, power_stops, whole, stops, flag, set_flag, not_up, proper, world_at, set_world, no_world, new_world, peer, powered, dark, woken, ran_as, worlds_after, Right}
-use Rattle.house.specs.Simulation.{Setting, lightless, turned, at_first, Relation, PeerHolds, Cut, Over, Outcome, WokenCut, Woken, Turned, Obligations, Simulated}
+use Rattle.house.specs.House.{Plain}
+use Rattle.house.specs.Promise.{Never, StillApart, KnownAllowed, Allowed, Item, power, power_stops, whole, stops, flag, set_flag, not_up, proper, world_at, set_world, no_world, new_world, peer, powered, dark, woken, ran_as, worlds_after, Right}
+use Rattle.house.specs.Simulation.{Setting, at_first, Relation, PeerHolds, Cut, Over, Outcome, WokenCut, Woken, Turned, Obligations, Simulated}
 
 -- a house that may be given power is one, and has none
 dark_flag : (us : List Bool) (c : ℕ) → not_up us c ≡ true → (c < length us) × (flag us c ≡ false)

@@ -1,8 +1,8 @@
 -- What every turn has in common: it leaves all as it is, or changes one house and lets the book grow.
-use Rattle.std.proofs.Common.{◌≡◌, ℕ, zero, suc, ◌+◌, ◌<◌, ◌≤◌, Bool, true, false, not, ◌&&◌, leb, ◌⊎◌, List, [], ◌∷◌, ◌++◌, length, sym, refl, ap, ◌∙◌, subst, inl, inr, ⊎_elim, append_assoc, append-nil, arith}
+use Rattle.std.proofs.Common.{◌≡◌, ℕ, zero, suc, ◌<◌, Bool, true, false, ◌&&◌, leb, ◌⊎◌, List, [], ◌∷◌, ◌++◌, length, sym, refl, ap, ◌∙◌, inl, inr, append_assoc, append-nil, arith}
 use Rattle.pages.specs.Lists.{pick, none_of}
 use Rattle.pages.proofs.ListLaws.{pick_both}
-use Rattle.trees.specs.Tree.{Tree, same_tree, clashes}
+use Rattle.trees.specs.Tree.{same_tree, clashes}
 use Rattle.history.specs.Book.{Book, Commit, Sum, nth, noted, place}
 use Rattle.history.proofs.BookLaws.{noted_more}
 use Rattle.commands.specs.Command.{Command, write_file, drop_file, commit, branch, go_to, history, show_file, status, read_file, join, settle, leave, move_onto, carry, forget, tag, who, sweep, fetch}

@@ -1,12 +1,11 @@
 -- What a house can reach, and how much that is.
-use Rattle.std.proofs.Common.{◌≡◌, ℕ, zero, suc, ◌+◌, ◌*◌, ◌<◌, ◌≤◌, Bool, true, false, not, ◌&&◌, eqb, ltb, ◌⊎◌, List, [], ◌∷◌, ◌++◌, length, sym, refl, ap, ◌∙◌, subst, inl, inr, ⊎_elim, arith}
-use Rattle.std.proofs.lemmas.Bool.{ltb-true, and_from, not_from_false}
+use Rattle.std.proofs.Common.{◌≡◌, ℕ, ◌+◌, ◌*◌, ◌<◌, true, eqb, ltb, List, [], ◌++◌, length, sym, refl, ap, ◌∙◌, subst, ⊎_elim}
+use Rattle.std.proofs.lemmas.Bool.{ltb-true}
 use Rattle.std.proofs.lemmas.Bool.Decides.{Decides-eqb}
-use Rattle.pages.specs.Lists.{every, each, flat, same, has, distinct, added_up}
-use Rattle.pages.proofs.ListLaws.{false_unless, In, in_left, in_right, in_append, every_in, each_in, flat_in, in_flat, has_in, in_has, flat_alike, added_up_alike, added_up_members, Once, same_tells, distinct_in, in_distinct, once_distinct}
-use Rattle.trees.specs.Tree.{Tree, File}
-use Rattle.history.specs.Book.{Book, Commit, nth, back, added}
-use Rattle.history.specs.Laws.{Grown}
+use Rattle.pages.specs.Lists.{every, each, flat, same, distinct, added_up}
+use Rattle.pages.proofs.ListLaws.{In, in_left, in_right, in_append, every_in, each_in, flat_in, in_flat, has_in, in_has, flat_alike, added_up_alike, added_up_members, Once, same_tells, distinct_in, in_distinct, once_distinct}
+use Rattle.trees.specs.Tree.{Tree}
+use Rattle.history.specs.Book.{Book, Commit, nth, added}
 use Rattle.history.proofs.BookLaws.{nth_front}
 use Rattle.history.proofs.BackLaws.{each_once_from, added_in, once_added, once_back, back_within}
 use Rattle.history.proofs.GrowLaws.{Below, back_more}

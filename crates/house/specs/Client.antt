@@ -1,6 +1,6 @@
 -- The house as a client of the tape. It knows no command yet: bytes that are no command are refused with 1, a command with 2. Of what it was told at power it
 -- keeps its number, the number of houses and of pages. Assumes nothing: these are definitions.
-use Rattle.std.specs.Prelude.{ℕ, List, [], ◌∷◌, ◌++◌, Some, None, Option, slice_index}
+use Rattle.std.specs.Prelude.{ℕ, List, ◌∷◌, Some, None, Option, slice_index}
 use Rattle.pages.specs.Lists.{zeros}
 use Rattle.pages.specs.Machine.{Asked, asked, program, capped}
 use Rattle.pages.specs.Engine.{Housed, housed}

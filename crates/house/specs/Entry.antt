@@ -1,5 +1,5 @@
 -- The house's own engine and sum, and how a step of the whole house is told to the world outside. Assumes nothing: these are definitions.
-use Rattle.std.specs.Prelude.{◌≡◌, ℕ, Bool, true, false, ◌&&◌, List, [], ◌∷◌, ◌++◌, length, take, drop, ◌==◌, nat_le}
+use Rattle.std.specs.Prelude.{◌≡◌, ℕ, Bool, true, false, ◌&&◌, List, length, take, drop, ◌==◌, nat_le}
 use Rattle.pages.specs.Lists.{pick}
 use Rattle.pages.specs.Bytes.{from_bytes}
 use Rattle.pages.specs.Run.{Engine, Event, on, said, page, next, heard, lost}

@@ -1,5 +1,5 @@
 -- What holds of the plain houses at all times: at the start, and after every turn of a command that fits.
-use Rattle.std.specs.Prelude.{◌≡◌, ℕ, zero, suc, ◌+◌, ◌-◌, ◌*◌, ◌/◌, ◌%◌, ◌<◌, ◌≤◌, Bool, true, false, not, ◌&&◌, List, [], ◌∷◌, ◌++◌, length, nat_lt}
+use Rattle.std.specs.Prelude.{◌≡◌, ℕ, ◌<◌, ◌≤◌, Bool, true, not, ◌&&◌, List, [], ◌∷◌, ◌++◌, length, nat_lt}
 use Rattle.pages.specs.Lists.{every, any, each, same, none_of, so_many}
 use Rattle.trees.specs.Tree.{Tree, File, rising_paths}
 use Rattle.history.specs.Book.{Book, Commit, Sum, nth}

@@ -1,8 +1,8 @@
 -- The plain house: what each command shows and what is afterwards. It keeps whole trees and one book of all commits of all houses.
 -- Assumes nothing: these are definitions.
-use Rattle.std.specs.Prelude.{◌≡◌, ℕ, zero, suc, ◌+◌, ◌-◌, ◌*◌, ◌/◌, ◌%◌, ◌<◌, ◌≤◌, Bool, true, false, not, ◌&&◌, leb, List, [], ◌∷◌, ◌++◌, length, ◌==◌, nat_le, nat_lt}
+use Rattle.std.specs.Prelude.{ℕ, zero, suc, ◌+◌, ◌*◌, Bool, true, false, not, ◌&&◌, leb, List, [], ◌∷◌, ◌++◌, length, ◌==◌, nat_le, nat_lt}
 use Rattle.pages.specs.Lists.{pick, or, every, any, each, those, flat, same, none_of, first_of, first_or, distinct, added_up}
-use Rattle.trees.specs.Tree.{Tree, File, alike, found, put, without, same_tree, joined, clashes, both, paths, mark}
+use Rattle.trees.specs.Tree.{Tree, alike, found, put, without, same_tree, joined, clashes, both, paths, mark}
 use Rattle.history.specs.Book.{Book, Commit, Sum, nth, id, noted, place, back, under, latest_common, log, added}
 use Rattle.commands.specs.Command.{Command, write_file, drop_file, commit, branch, go_to, history, show_file, status, read_file, join, settle, leave, move_onto, carry, forget, tag, who, sweep, fetch}
 

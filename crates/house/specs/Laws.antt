@@ -1,5 +1,5 @@
 -- What the plain houses promise, as statements: each is a type whose proof stands on a contract of this crate.
-use Rattle.std.specs.Prelude.{◌≡◌, ℕ, zero, suc, ◌+◌, ◌-◌, ◌*◌, ◌/◌, ◌%◌, ◌<◌, ◌≤◌, Bool, true, false, not, ◌&&◌, ltb, List, [], ◌∷◌, ◌++◌, length, nat_le, nat_lt}
+use Rattle.std.specs.Prelude.{◌≡◌, ℕ, ◌<◌, Bool, true, ◌&&◌, ltb, List, [], ◌∷◌, ◌++◌, length, nat_le, nat_lt}
 use Rattle.pages.specs.Lists.{or, every, same, has}
 use Rattle.trees.specs.Tree.{found, alike, joined, both, rising_paths}
 use Rattle.history.specs.Book.{Book, Sum, nth}

@@ -1,5 +1,5 @@
 -- A morning at two houses, told command by command: what each is to show, or by which number it is refused.
-use Rattle.std.specs.Prelude.{◌≡◌, ℕ, Bool, true, false, ◌&&◌, List, [], ◌∷◌, ◌++◌, codes, ◌==◌}
+use Rattle.std.specs.Prelude.{◌≡◌, ℕ, Bool, true, ◌&&◌, List, [], ◌∷◌, codes, ◌==◌}
 use Rattle.pages.specs.Lists.{each, so_many}
 use Rattle.trees.specs.Tree.{alike}
 use Rattle.history.specs.Book.{Book, Sum, id}

@@ -1,6 +1,6 @@
 -- A house that is a client on a tape: what it holds there, and what is to be shown of it, one command at a time, so that all houses keep the promise. Pages,
 -- waiting writes and stops are not spoken of any more. Assumes nothing: these are definitions.
-use Rattle.std.specs.Prelude.{◌≡◌, ℕ, zero, suc, ◌<◌, ◌≤◌, Bool, true, false, ◌⊎◌, List, [], ◌∷◌, ◌++◌, length}
+use Rattle.std.specs.Prelude.{◌≡◌, ℕ, suc, ◌<◌, Bool, true, ◌⊎◌, List, [], ◌++◌, length}
 use Rattle.pages.specs.Lists.{zeros}
 use Rattle.pages.specs.Words.{small}
 use Rattle.pages.specs.Run.{World}

@@ -1,10 +1,10 @@
 -- What the houses promise, as a statement: `Whole` is a type, and its proof stands on a contract of this crate.
-use Rattle.std.specs.Prelude.{◌≡◌, ℕ, zero, suc, ◌+◌, ◌-◌, ◌*◌, ◌/◌, ◌%◌, ◌<◌, ◌≤◌, Bool, true, false, not, ◌&&◌, ltb, ◌⊎◌, List, [], ◌∷◌, ◌++◌, length, ◌==◌, nat_eq, nat_lt, slice_index_or, slice_set}
+use Rattle.std.specs.Prelude.{◌≡◌, ℕ, zero, suc, ◌+◌, ◌*◌, ◌/◌, ◌<◌, ◌≤◌, Bool, true, false, not, ◌&&◌, ltb, ◌⊎◌, List, [], ◌∷◌, ◌++◌, length, ◌==◌, nat_eq, nat_lt, slice_index_or, slice_set}
 use Rattle.pages.specs.Lists.{pick, or, every, any, each, flat, same, has, so_many, distinct, added_up}
 use Rattle.pages.specs.Bytes.{from_bytes}
 use Rattle.pages.specs.Words.{small}
 use Rattle.pages.specs.Device.{blank, stopped}
-use Rattle.pages.specs.Run.{Engine, Event, on, said, World, Ran, Step, runs}
+use Rattle.pages.specs.Run.{Engine, Event, on, said, World, Ran, runs}
 use Rattle.history.specs.Book.{Book, Sum, nth, clear, all_files}
 use Rattle.commands.specs.Command.{Command, fetch, spelled, fits}
 use Rattle.house.specs.House.{Plain, Clone, Turn, turn, clone_at, empty_clone, reached, weight, tree_weight}

@@ -1,12 +1,12 @@
 -- What is to be shown of one house at a time so that all houses keep the promise, whatever happens. Assumes nothing: these are definitions.
-use Rattle.std.specs.Prelude.{◌≡◌, ℕ, zero, suc, ◌<◌, ◌≤◌, Bool, true, false, ◌⊎◌, List, [], ◌∷◌, ◌++◌, length}
+use Rattle.std.specs.Prelude.{◌≡◌, ℕ, suc, ◌<◌, Bool, true, false, ◌⊎◌, List, [], ◌++◌, length}
 use Rattle.pages.specs.Lists.{so_many}
 use Rattle.pages.specs.Device.{Device, stopped}
 use Rattle.pages.specs.Run.{Engine, on, said, World}
 use Rattle.pages.specs.Crash.{Rows, Goes}
 use Rattle.history.specs.Book.{Sum}
 use Rattle.commands.specs.Command.{Command}
-use Rattle.house.specs.House.{Plain, Turn, turn, clone_at, empty_clone}
+use Rattle.house.specs.House.{Plain, turn, clone_at, empty_clone}
 use Rattle.house.specs.Promise.{Never, Said, StillApart, Allowed, Item, Right, proper, powered, no_world, new_world, peer}
 
 -- what stands fixed while things happen

@@ -1,4 +1,6 @@
 // The plain houses, the house that runs, and what they promise.
+#![tactic(auto)]
+
 ghost use Rattle.house.specs.Entry.{event_of, StepSays, step_fits};
 ghost use Rattle.pages.specs.Bytes.{from_bytes};
 ghost use Rattle.pages.specs.Told.{event_meant};

@@ -25,7 +25,7 @@ pub trait Relates {
 
 // Obligations about one house at a time give the promise for all houses and all that can happen, for any engine.
 pub fn simulates<R: Relates>(r: &R) -> u8
-    ensures { Simulated (fine r.now) (holds r.now) }
+    ensures { Simulated (R.fine r.now) (R.holds r.now) }
 {
     0
 }

@@ -1,5 +1,7 @@
 // What the house keeps on its tape: where each thing stands in memory, ranks in the bitmap of its units, the walk that meets all that is
 // live, the sweep that copies it, and how each kind of object is laid out.
+#![tactic(auto)]
+
 pub mod laws;
 pub mod layouts;
 pub mod mark;

@@ -1,4 +1,6 @@
 // Sweeps and surveys of random objects, with and without stops; and how long those of a large store take.
+#![tactic(auto)]
+
 mod bench;
 mod desk;
 mod device;

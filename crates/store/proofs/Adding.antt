@@ -3,7 +3,7 @@ use Rattle.std.proofs.Common.{◌≡◌, ℕ, ◌+◌, ◌-◌, ◌*◌, ◌/◌
 use Rattle.std.proofs.lemmas.List.{drop-drop, drop-append-le, take-append-drop, take_rest, take_all, drop_all}
 use Rattle.store.specs.declared.words.Words.{Words}
 use Rattle.store.specs.declared.hasher.Hasher.{Hasher}
-use Rattle.store.specs.Sha256.{compressed, hashed, block}
+use Rattle.store.specs.Sha256.{compressed, hashed}
 use Rattle.store.specs.Rows.{over}
 use Rattle.store.specs.Running.{Progress, fresh, progress, added}
 use Rattle.store.proofs.Hashing.{hashed_later, hashed_front}

@@ -2,7 +2,7 @@
 use Rattle.std.proofs.Common.{◌≡◌, ℕ, zero, suc, ◌+◌, ◌-◌, ◌*◌, ◌≤◌, List, ◌++◌, length, take, drop, sym, refl, ap, ◌∙◌, add-zero, add-suc, mul-add, add-one, arith, length-drop}
 use Rattle.std.proofs.lemmas.List.{drop-drop, drop-append-le, take-append-le}
 use Rattle.store.specs.declared.words.Words.{Words}
-use Rattle.store.specs.Sha256.{block, compressed, hashed}
+use Rattle.store.specs.Sha256.{compressed, hashed}
 
 pub hashed_none : (s : Words) (m : List ℕ) → s ≡ hashed 0 s m
 unfolding hashed

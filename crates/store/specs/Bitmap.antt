@@ -1,5 +1,5 @@
 -- A bitmap: a bit for each unit, 64 to a word, the lowest first. Assumes nothing: these are definitions.
-use Rattle.std.specs.Prelude.{◌≡◌, ℕ, zero, suc, ◌+◌, ◌*◌, ◌/◌, ◌%◌, ◌^◌, ◌<◌, ◌≤◌, Bool, true, false, ◌&&◌, ◌⊎◌, List, length, set, Some, None, Option, ◌==◌, bit_or, nat_lt, slice_index, slice_set}
+use Rattle.std.specs.Prelude.{◌≡◌, ℕ, zero, suc, ◌+◌, ◌*◌, ◌/◌, ◌%◌, ◌^◌, ◌<◌, ◌≤◌, Bool, true, false, ◌&&◌, ◌⊎◌, List, length, Some, None, Option, ◌==◌, bit_or, nat_lt, slice_index, slice_set}
 use Rattle.pages.specs.Lists.{pick, or, zeros}
 
 abbrev pub bit : List ℕ → ℕ → Bool

@@ -1,4 +1,6 @@
 // The sum of each file that is named, in the layout of sha256sum: to be run beside it.
+#![tactic(auto)]
+
 use std::fs::File;
 use std::io::Read;
 use std::{env, io};

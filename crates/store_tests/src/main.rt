@@ -1,5 +1,7 @@
 // Sums of known messages, to be held to the values that another implementation gives (tests/sums.py):
 // the standard's published examples, every length up to two blocks and more, and a long message in uneven pieces.
+#![tactic(auto)]
+
 use std::io;
 use store::hasher::{Hasher, sum};
 

@@ -1,21 +1,21 @@
 -- All differences of two rows, one answer after another, are the marks of their trees.
-use Rattle.std.proofs.Common.{◌≡◌, ℕ, zero, suc, ◌+◌, ◌-◌, ◌*◌, ◌<◌, ◌≤◌, Bool, true, false, ◌&&◌, eqb, ◌⊎◌, List, [], ◌∷◌, ◌++◌, length, get_or, take, drop, Some, None, Option, sym, refl, ap, ◌∙◌, ap₂, inl, inr, arith, length-drop}
+use Rattle.std.proofs.Common.{◌≡◌, ℕ, zero, suc, ◌+◌, ◌<◌, ◌≤◌, Bool, true, false, ◌&&◌, eqb, List, [], ◌∷◌, length, get_or, drop, Some, None, Option, sym, refl, ap, ◌∙◌, ap₂, inl, arith, length-drop}
 use Rattle.std.proofs.lemmas.Bool.{and_parts, eqb-true}
 use Rattle.std.proofs.lemmas.List.{drop-drop}
-use Rattle.pages.specs.Lists.{pick, every, each, flat, has, same, earlier, first_or}
+use Rattle.pages.specs.Lists.{pick, every, each, has, same, earlier, first_or}
 use Rattle.pages.proofs.ListLaws.{same_test, same_true, same_from, or_right, in_has, length_each}
 use Rattle.trees.specs.declared.differences.Cursor.{Cursor}
 use Rattle.trees.specs.declared.differences.Place.{Place}
 use Rattle.trees.specs.declared.differences.Place.TheVariants.{New, Changed, Gone}
 use Rattle.trees.specs.declared.differences.Difference.{Difference}
-use Rattle.trees.specs.Tree.{File, Tree, mark, both, paths, rising_paths}
-use Rattle.trees.specs.Row.{entry, key_of, path_of, cut, held, entries_of}
-use Rattle.trees.specs.RowOf.{proper, good_key, file_of, RowOf}
-use Rattle.trees.specs.RowPromises.{Apart, DiffersRight}
-use Rattle.trees.specs.Differ.{differs, meets, difference_here, first_difference, difference_from, answers, path_in, shown}
+use Rattle.trees.specs.Tree.{File, Tree}
+use Rattle.trees.specs.Row.{key_of, path_of, held, entries_of}
+use Rattle.trees.specs.RowOf.{proper, good_key, file_of}
+use Rattle.trees.specs.RowPromises.{DiffersRight}
+use Rattle.trees.specs.Differ.{differs, first_difference, difference_from, answers, path_in, shown}
 use Rattle.trees.proofs.RowLaws.{length_cut}
 use Rattle.trees.proofs.PackLaws.{key_same, key_earlier}
-use Rattle.trees.proofs.RowOfLaws.{whole, only_one, good_parts, row_length, row_whole, row_rising}
+use Rattle.trees.proofs.RowOfLaws.{whole, only_one, good_parts, row_whole, row_rising}
 use Rattle.trees.proofs.DifferLaws.{entry_at}
 use Rattle.trees.proofs.MarkLaws.{merged, marks_merged}
 

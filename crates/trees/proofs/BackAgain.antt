@@ -1,18 +1,18 @@
 -- What was stored is spread again as it was.
-use Rattle.std.proofs.Common.{◌≡◌, ℕ, zero, suc, ◌+◌, ◌-◌, ◌*◌, ◌/◌, ◌<◌, ◌≤◌, min, Bool, true, false, ◌&&◌, eqb, leb, List, [], ◌∷◌, ◌++◌, length, get_or, take, drop, sym, refl, ap, ◌∙◌, subst, ap₂, append_assoc, append-nil, arith, length-append, length-drop, length-take}
+use Rattle.std.proofs.Common.{◌≡◌, ℕ, zero, suc, ◌+◌, ◌-◌, ◌*◌, ◌≤◌, true, eqb, leb, List, [], ◌∷◌, ◌++◌, length, get_or, take, drop, sym, refl, ap, ◌∙◌, subst, ap₂, append_assoc, arith}
 use lib.Seq.{take-append-add}
 use Rattle.std.proofs.lemmas.Bool.{and_parts, and_from, le-leb, eqb-true}
 use Rattle.std.proofs.lemmas.List.{drop-drop, get_or_append_left, get_or_at, take_at, drop_at, take-append-le, take-append-drop, length-take-le}
-use Rattle.pages.specs.Lists.{pick, every, each, flat, zeros}
-use Rattle.pages.specs.Bytes.{from_bytes, all_bytes}
+use Rattle.pages.specs.Lists.{every, zeros}
+use Rattle.pages.specs.Bytes.{from_bytes}
 use Rattle.pages.specs.Words.{words}
-use Rattle.pages.proofs.ListLaws.{pick_true, length_each}
+use Rattle.pages.proofs.ListLaws.{pick_true}
 use Rattle.pages.proofs.WordLaws.{length_zeros, length_words, zeros_append}
 use Rattle.trees.specs.Tree.{File, Tree}
-use Rattle.trees.specs.Row.{entry, good_path, key_of, path_of, cut, in_words, laid, held, room, entries_of, rewritten}
-use Rattle.trees.specs.RowOf.{proper, good_key, file_of, weight_of, RowOf}
+use Rattle.trees.specs.Row.{entry, key_of, path_of, cut, in_words, held, room, entries_of, rewritten}
+use Rattle.trees.specs.RowOf.{good_key, RowOf}
 use Rattle.trees.specs.RowPromises.{StoredRight}
-use Rattle.trees.specs.Packed.{heading, needed, packed, packed_all, squeezed, stride, unpacked, unpacked_all, spread_fits, spread_into}
+use Rattle.trees.specs.Packed.{needed, packed, packed_all, squeezed, stride, unpacked, unpacked_all, spread_fits, spread_into}
 use Rattle.trees.proofs.RowLaws.{length_cut, flat_cut}
 use Rattle.trees.proofs.PackLaws.{proper_parts}
 use Rattle.trees.proofs.RowOfLaws.{whole, only_one, good_parts, row_length, row_whole, row_rewritten}

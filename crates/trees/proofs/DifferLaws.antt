@@ -1,10 +1,10 @@
 -- Going through two lists of entries side by side.
-use Rattle.std.proofs.Common.{◌≡◌, ℕ, zero, suc, ◌+◌, ◌-◌, ◌*◌, ◌<◌, ◌≤◌, Bool, true, false, ◌&&◌, List, [], ◌∷◌, ◌++◌, length, get_or, take, drop, Decides, Option, sym, refl, ap, ◌∙◌, ap₂, arith, length-drop}
-use Rattle.std.proofs.lemmas.Bool.{true≢false, false≢true}
+use Rattle.std.proofs.Common.{◌≡◌, ℕ, ◌+◌, ◌-◌, ◌*◌, ◌<◌, ◌≤◌, Bool, true, false, ◌&&◌, List, [], ◌∷◌, length, get_or, take, drop, Decides, Option, sym, refl, ap, ◌∙◌, ap₂, arith, length-drop}
+use Rattle.std.proofs.lemmas.Bool.{true≢false}
 use Rattle.std.proofs.lemmas.List.{drop-drop, drop_all, get_or-drop}
 use Rattle.pages.specs.Lists.{pick, same, earlier}
 use Rattle.pages.proofs.ListLaws.{pick_true, pick_false}
-use Rattle.trees.specs.Tree.{File, Tree, same_tree}
+use Rattle.trees.specs.Tree.{Tree, same_tree}
 use Rattle.trees.specs.Row.{entry, cut, held, entries_of}
 use Rattle.trees.specs.declared.keys.Order.{Order}
 use Rattle.trees.specs.declared.keys.Order.TheVariants.{Earlier, Same, Later}

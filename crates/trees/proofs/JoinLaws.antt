@@ -1,11 +1,11 @@
 -- What joining gives. The trees may be any lists of files: a path that stands several times is taken out as often as it stands.
-use Rattle.std.proofs.Common.{◌≡◌, ℕ, zero, suc, ◌+◌, ◌-◌, ◌<◌, ◌≤◌, Bool, true, false, not, ◌&&◌, ◌⊎◌, List, [], ◌∷◌, ◌++◌, length, sym, refl, ap, ◌∙◌, subst, inl, inr, ⊎_elim, arith, length-append}
-use Rattle.std.proofs.lemmas.Bool.{true≢false, false≢true, and_parts, and_from, and_left, and_right, not-true, not-false, not_from_true, not_from_false}
-use Rattle.pages.specs.Lists.{pick, every, each, those, same, earlier, none_of}
-use Rattle.pages.proofs.ListLaws.{pick_both, pick_true, pick_false, false_unless, same_test, In, in_left, in_right, in_append, same_true, same_refl, same_from, same_false, same_sym, those_append, those_in, in_those, Once, once_those, length_those, length_each}
+use Rattle.std.proofs.Common.{◌≡◌, ℕ, suc, ◌+◌, ◌-◌, ◌≤◌, Bool, true, false, not, ◌&&◌, ◌⊎◌, List, [], ◌∷◌, ◌++◌, length, sym, refl, ap, ◌∙◌, subst, inl, inr, ⊎_elim, arith, length-append}
+use Rattle.std.proofs.lemmas.Bool.{true≢false, false≢true, and_parts, and_left, and_right, not-false}
+use Rattle.pages.specs.Lists.{pick, every, those, same, earlier}
+use Rattle.pages.proofs.ListLaws.{pick_both, pick_true, pick_false, In, in_left, in_right, same_true, same_refl, same_from, same_false, same_sym, those_append, those_in, in_those, Once, once_those, length_those, length_each}
 use Rattle.trees.specs.Tree.{File, Tree, found, alike, put, without, set, paths, both, rising_paths, changed, clash, joined_at, joined_over, joined, clashes}
 use Rattle.trees.specs.Laws.{JoinedRight, OneSide, FilesFound, OneTree}
-use Rattle.trees.proofs.TreeLaws.{found_without_same, put_rising, without_rising, rising_alike, alike_true, alike_refl, alike_from, alike_sym, found_one, found_in, found_out, in_found, found_put_same, found_put_other, found_without_other, found_set_other, set_rising, paths_put, paths_without, in_both_left, in_both_right, both_rising, both_in, set_every, found_every, once_paths, length_both}
+use Rattle.trees.proofs.TreeLaws.{found_without_same, put_rising, without_rising, rising_alike, alike_true, alike_from, alike_sym, found_one, found_in, found_out, found_put_same, found_put_other, found_without_other, found_set_other, set_rising, in_both_left, in_both_right, both_rising, both_in, set_every, found_every, once_paths, length_both}
 
 -- how often a path stands in a list
 abbrev pub times : List ℕ → List (List ℕ) → ℕ

@@ -1,8 +1,7 @@
 -- The marks of two trees, found by going through both side by side.
-use Rattle.std.proofs.Common.{◌≡◌, ℕ, zero, suc, ◌+◌, ◌<◌, ◌≤◌, Bool, true, false, not, ◌&&◌, ◌⊎◌, List, [], ◌∷◌, ◌++◌, length, sym, refl, ap, ◌∙◌, subst, ap₂, inl, inr, ⊎_elim, arith}
-use Rattle.std.proofs.lemmas.Bool.{true≢false, false≢true}
-use Rattle.pages.specs.Lists.{pick, each, flat, same, earlier, none_of}
-use Rattle.pages.proofs.ListLaws.{In, pick_true, pick_false, flat_alike, same_true, same_not, same_from, earlier_refl, earlier_trans, earlier_not_same, earlier_one_way, earlier_else}
+use Rattle.std.proofs.Common.{◌≡◌, ℕ, zero, suc, ◌+◌, ◌≤◌, Bool, true, false, ◌&&◌, List, [], ◌∷◌, ◌++◌, length, sym, refl, ap, ◌∙◌, subst, ap₂, inl, inr, ⊎_elim, arith}
+use Rattle.pages.specs.Lists.{pick, flat, same, earlier, none_of}
+use Rattle.pages.proofs.ListLaws.{In, pick_true, pick_false, flat_alike, same_true, same_not, same_from, earlier_trans, earlier_not_same, earlier_one_way, earlier_else}
 use Rattle.trees.specs.Tree.{File, Tree, found, alike, put, both, paths, mark, rising_paths}
 use Rattle.trees.proofs.TreeLaws.{found_here, found_further, found_out, rising_first, rising_rest, both_in}
 

@@ -1,8 +1,7 @@
 -- Moving words inside a row by ten, and what a row holds when an entry is put between others, in place of one, or taken out.
-use Rattle.std.proofs.Common.{◌≡◌, ℕ, zero, suc, ◌+◌, ◌-◌, ◌*◌, ◌<◌, ◌≤◌, List, [], ◌∷◌, ◌++◌, length, get_or, take, drop, set, sym, refl, ap, ◌∙◌, ap₂, append_assoc, append-nil, arith, length-append, length-drop, length-take}
-use native.Mathlib.Nat.{sub_self}
+use Rattle.std.proofs.Common.{◌≡◌, ℕ, suc, ◌+◌, ◌-◌, ◌*◌, ◌<◌, ◌≤◌, List, [], ◌∷◌, ◌++◌, length, get_or, take, drop, set, sym, ap, ◌∙◌, ap₂, append_assoc, append-nil, arith, length-append, length-drop, length-take}
 use borrow.Rule.Slice.PartMut.{put_mid}
-use Rattle.std.proofs.lemmas.List.{drop-drop, get_or-drop, get_or-take, get_or_append_left, get_or-append_right, set_at, take-take, take_at, drop_at, take_all, take-append-drop, take-append-le, length-take-le, drop_more, take_more}
+use Rattle.std.proofs.lemmas.List.{drop-drop, get_or-drop, get_or-take, get_or_append_left, get_or-append_right, set_at, take-take, drop_at, take-append-drop, take-append-le, length-take-le, drop_more, take_more}
 use Rattle.pages.specs.Lists.{flat}
 use Rattle.trees.specs.Tree.{Tree}
 use Rattle.trees.specs.Row.{entry, cut, in_words, laid}

@@ -1,12 +1,12 @@
 -- Packed paths: their keys are ordered as they are, and a key gives its path back.
-use Rattle.std.proofs.Common.{◌≡◌, ℕ, zero, suc, ◌+◌, ◌-◌, ◌*◌, ◌<◌, ◌≤◌, Bool, true, false, not, ◌&&◌, eqb, ltb, leb, ◌⊎◌, List, [], ◌∷◌, ◌++◌, length, get_or, take, drop, sym, refl, ap, ◌∙◌, subst, ap₂, inl, inr, ⊎_elim, append_assoc, append-nil, zero-add, arith, length-append, length-drop, take-append-drop, length-take}
-use Rattle.std.proofs.lemmas.Bool.{true≢false, false≢true, and_parts, and_from, ltb-true, lt-ltb, le-ltb, eq-eqb, ne_eqb, eqb-true, leb-true, cases_order}
+use Rattle.std.proofs.Common.{◌≡◌, ℕ, zero, suc, ◌+◌, ◌-◌, ◌*◌, ◌<◌, ◌≤◌, Bool, true, false, ◌&&◌, eqb, ltb, leb, ◌⊎◌, List, [], ◌∷◌, ◌++◌, length, take, drop, sym, refl, ap, ◌∙◌, ap₂, inl, inr, ⊎_elim, append_assoc, zero-add, arith, length-append, length-drop, take-append-drop}
+use Rattle.std.proofs.lemmas.Bool.{and_parts, and_from, ltb-true, lt-ltb, le-ltb, eq-eqb, ne_eqb, leb-true, cases_order}
 use Rattle.std.proofs.lemmas.List.{take_at, length-take-le, get_or_at}
 use Rattle.std.proofs.lemmas.Bool.Decides.{nat_tests}
 use Rattle.pages.specs.Lists.{pick, same, earlier, zeros}
 use Rattle.pages.specs.Bytes.{from_bytes, all_bytes}
 use Rattle.pages.specs.Words.{words, bytes_of}
-use Rattle.pages.proofs.ListLaws.{same_test, false_unless, same_from, same_true, same_refl, earlier_refl, earlier_total, earlier_not_same, earlier_one_way, earlier_first, earlier_next}
+use Rattle.pages.proofs.ListLaws.{same_test, same_from, same_true, earlier_refl, earlier_total, earlier_not_same, earlier_one_way, earlier_first, earlier_next}
 use Rattle.pages.proofs.BytesLaws.{all_bytes_append, all_bytes_take, all_bytes_drop}
 use Rattle.pages.proofs.WordLaws.{length_zeros, length_words, bytes_of_words}
 use Rattle.trees.specs.Row.{good_path, key_of, path_of}

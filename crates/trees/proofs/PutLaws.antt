@@ -1,13 +1,13 @@
 -- What putting an entry into a row comes to, and taking one out: with room or without, over another one or as a new one.
-use Rattle.std.proofs.Common.{◌≡◌, ℕ, zero, suc, ◌+◌, ◌-◌, ◌*◌, ◌<◌, ◌≤◌, min, Bool, true, false, not, ◌&&◌, eqb, ltb, leb, List, [], ◌∷◌, ◌++◌, length, get_or, take, drop, set, sym, refl, ap, ◌∙◌, ap₂, arith, length-append, length-drop, length-take}
+use Rattle.std.proofs.Common.{◌≡◌, ℕ, suc, ◌+◌, ◌-◌, ◌<◌, ◌≤◌, min, true, false, not, ltb, List, [], ◌∷◌, ◌++◌, length, get_or, take, drop, set, sym, ap, ◌∙◌, arith, length-append, length-drop, length-take}
 use borrow.Rule.Slice.PartMut.{put_mid}
 use Rattle.std.proofs.lemmas.Bool.{le-leb, lt-leb, le-ltb, lt-ltb}
 use Rattle.pages.specs.Lists.{pick, none_of}
 use Rattle.pages.proofs.ListLaws.{pick_true, pick_false}
-use Rattle.trees.specs.Tree.{File, Tree, found, put, without}
+use Rattle.trees.specs.Tree.{Tree, found, put, without}
 use Rattle.trees.specs.Order.{spot, there}
-use Rattle.trees.specs.Row.{entry, cut, laid, held, room, entries_of, putting, room_for, weight_put, put_key, rewritten, has_key, take_key}
-use Rattle.trees.proofs.RowLaws.{length_cut, spot_put, spot_without, spot_within, there_within, found_cut, found_none, rewritten_is, rewritten_same}
+use Rattle.trees.specs.Row.{entry, laid, held, room, entries_of, putting, room_for, weight_put, put_key, rewritten, has_key, take_key}
+use Rattle.trees.proofs.RowLaws.{length_cut, spot_put, spot_without, spot_within, there_within, found_cut, rewritten_is, rewritten_same}
 
 pub put_hit : (k b : List ℕ) (es : Tree) (s : ℕ) → s ≡ spot false k es → true ≡ there k (drop s es) →
     (put k b es ≡ take s es ++ record { path = k; bytes = b } ∷ drop (s + 1) es) × (length (put k b es) ≡ length es)

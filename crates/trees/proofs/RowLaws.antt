@@ -1,17 +1,16 @@
 -- Laws of tree rows: how a row is cut into entries, where a search stops in them, and what is written.
-use Rattle.std.proofs.Common.{◌≡◌, ℕ, zero, suc, ◌+◌, ◌-◌, ◌*◌, ◌<◌, ◌≤◌, Bool, true, false, not, ◌&&◌, eqb, ltb, leb, ◌⊎◌, List, [], ◌∷◌, ◌++◌, length, get_or, take, drop, set, Some, None, Decides, Option, sym, refl, ap, ◌∙◌, subst, ap₂, inl, inr, ⊎_elim, append_assoc, append-nil, add-zero, zero-add, arith, length-append, length-drop, length-take, take-add}
+use Rattle.std.proofs.Common.{◌≡◌, ℕ, zero, suc, ◌+◌, ◌-◌, ◌*◌, ◌<◌, ◌≤◌, Bool, true, false, ◌&&◌, List, [], ◌∷◌, ◌++◌, length, get_or, take, drop, set, Some, None, Decides, sym, refl, ap, ◌∙◌, ap₂, append_assoc, append-nil, arith, length-drop, take-add}
 use native.Mathlib.Nat.{sub-zero}
 use borrow.Rule.Slice.PartMut.{put_mid}
-use lib.Seq.{take-append-add}
-use Rattle.std.proofs.lemmas.Bool.{true≢false, false≢true, and_parts, and_from, cases_Bool}
-use Rattle.std.proofs.lemmas.List.{drop-drop, get_or-drop, take_all, drop_all, take-append-drop, drop_more, take_more, take_rest, take-take, get_or-take, drop-take}
+use Rattle.std.proofs.lemmas.Bool.{false≢true}
+use Rattle.std.proofs.lemmas.List.{drop-drop, get_or-drop, drop_all, take_more, take_rest, take-take, get_or-take, drop-take}
 use Rattle.std.proofs.lemmas.Bool.Decides.{same_from_decides}
-use Rattle.pages.specs.Lists.{pick, or, each, any, flat, same, earlier, first_of}
+use Rattle.pages.specs.Lists.{pick, or, each, flat, same, earlier, first_of}
 use Rattle.pages.proofs.ListLaws.{pick_both, pick_true, pick_false, false_unless, same_sym}
-use Rattle.trees.specs.Tree.{File, Tree, found, put, without, same_tree}
+use Rattle.trees.specs.Tree.{Tree, found, put, without, same_tree}
 use Rattle.trees.proofs.TreeLaws.{same_tree_tells}
 use Rattle.trees.specs.Order.{spot, halts, there}
-use Rattle.trees.specs.Row.{entry, cut, in_words, laid, key_of, good_path, reference_in, rewritten, held, entries_of}
+use Rattle.trees.specs.Row.{entry, cut, in_words, laid, rewritten, held, entries_of}
 
 -- CUTTING
 

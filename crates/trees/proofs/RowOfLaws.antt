@@ -1,6 +1,6 @@
 -- Rows and their trees: what is done to a well-formed row is what the plain tree's operations do, and the row stays well formed.
-use Rattle.std.proofs.Common.{◌≡◌, ℕ, zero, suc, ◌+◌, ◌-◌, ◌*◌, ◌/◌, ◌<◌, ◌≤◌, min, Bool, true, false, not, ◌&&◌, eqb, ltb, leb, ◌⊎◌, List, [], ◌∷◌, ◌++◌, length, get_or, take, drop, Some, None, Ok, Err, sym, refl, ap, ◌∙◌, subst, ap₂, inl, inr, ⊎_elim, append_assoc, arith, length-append, length-drop, length-take}
-use Rattle.std.proofs.lemmas.Bool.{true≢false, false≢true, and_parts, and_from, eqb-true, eq-eqb, leb-true, le-leb, lt-ltb, le-ltb}
+use Rattle.std.proofs.Common.{◌≡◌, ℕ, zero, suc, ◌+◌, ◌-◌, ◌*◌, ◌≤◌, min, Bool, true, false, not, ◌&&◌, eqb, ltb, leb, ◌⊎◌, List, [], ◌∷◌, ◌++◌, length, get_or, take, drop, None, Ok, Err, sym, refl, ap, ◌∙◌, subst, ap₂, inl, inr, ⊎_elim, append_assoc, arith, length-append, length-drop}
+use Rattle.std.proofs.lemmas.Bool.{true≢false, false≢true, and_parts, and_from, eqb-true, eq-eqb, leb-true, lt-ltb, le-ltb}
 use Rattle.std.proofs.lemmas.List.{take_at, drop_at, get_or_at, length-take-le}
 use Rattle.std.proofs.lemmas.Bool.Decides.{same_from_decides}
 use Rattle.pages.specs.Lists.{pick, every, each, flat, same, earlier, first_or, has, none_of, added_up}
@@ -9,7 +9,7 @@ use Rattle.pages.proofs.ListLaws.{In, pick_both, pick_true, pick_false, same_tru
 use Rattle.trees.specs.Tree.{File, Tree, found, put, without, same_tree, rising_paths}
 use Rattle.trees.specs.Row.{entry, good_path, key_of, path_of, cut, in_words, laid, held, room, entries_of, rewritten, putting, room_for, weight_put, put_key, put_in, has_key, take_key, take_from, taken_from, put_answer, find_in, reference_in}
 use Rattle.trees.specs.declared.rows.Refused.TheVariants.{Path, Full}
-use Rattle.trees.specs.RowPromises.{KeysOrdered, EmptyRight, FindsRight, PutsRight, TakesRight, SameRight, Apart, references, listed}
+use Rattle.trees.specs.RowPromises.{KeysOrdered, EmptyRight, FindsRight, PutsRight, TakesRight, SameRight, listed}
 use Rattle.trees.specs.RowOf.{proper, good_key, file_of, weight_of, RowOf}
 use Rattle.trees.proofs.TreeLaws.{put_every, without_every, put_rising, without_rising, found_one, length_without, same_tree_tells, rising_first, rising_from, rising_rest}
 use Rattle.trees.proofs.RowLaws.{length_cut}

@@ -1,15 +1,14 @@
 -- Stored entries spread into a row.
-use Rattle.std.proofs.Common.{◌≡◌, ℕ, zero, suc, ◌+◌, ◌-◌, ◌*◌, ◌<◌, ◌≤◌, min, Bool, true, false, ◌&&◌, leb, List, [], ◌∷◌, ◌++◌, length, get_or, take, drop, set, sym, refl, ap, ◌∙◌, ap₂, append_assoc, append-nil, add-zero, arith, length-append, length-drop, length-set, length-take}
+use Rattle.std.proofs.Common.{◌≡◌, ℕ, zero, suc, ◌+◌, ◌-◌, ◌*◌, ◌<◌, ◌≤◌, true, false, leb, List, [], ◌∷◌, ◌++◌, length, get_or, take, drop, set, sym, refl, ap, ◌∙◌, ap₂, append_assoc, append-nil, add-zero, arith, length-append, length-set, length-take}
 use borrow.Rule.Slice.PartMut.{put_mid}
-use Rattle.std.proofs.lemmas.Bool.{le-leb, lt-leb, and_from, and_left, and_right}
+use Rattle.std.proofs.lemmas.Bool.{le-leb, and_from}
 use Rattle.std.proofs.lemmas.List.{drop-drop, get_or-drop, get_or-take, get_or_past, get_or_at, take_at, drop_at, take_all, length-take-le, take_more_set, take-append-drop}
-use Rattle.pages.specs.Lists.{pick, flat, zeros}
+use Rattle.pages.specs.Lists.{flat, zeros}
 use Rattle.pages.proofs.ListLaws.{pick_true, pick_false}
 use Rattle.pages.proofs.WordLaws.{length_zeros}
-use Rattle.trees.specs.Tree.{File, Tree}
 use Rattle.trees.specs.Row.{entry, cut, in_words, laid, room, rewritten}
 use Rattle.trees.specs.Packed.{needed, stride, unpacked, unpacked_all, spread_fits, spread_into}
-use Rattle.trees.proofs.RowLaws.{length_cut, cut_take, flat_cut, rewritten_is}
+use Rattle.trees.proofs.RowLaws.{cut_take, flat_cut, rewritten_is}
 use Rattle.trees.proofs.StoredLaws.{cut_push}
 
 -- zeros behind are as nothing

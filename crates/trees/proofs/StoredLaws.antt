@@ -1,15 +1,13 @@
 -- Entries as they are stored: how many words they take, and where each one stands.
-use Rattle.std.proofs.Common.{◌≡◌, ℕ, zero, suc, ◌+◌, ◌-◌, ◌*◌, ◌/◌, ◌<◌, ◌≤◌, min, true, false, leb, List, [], ◌∷◌, ◌++◌, length, get_or, take, drop, set, Some, None, sym, refl, ap, ◌∙◌, ap₂, append_assoc, append-nil, arith, length-append, length-drop, length-set, length-take}
+use Rattle.std.proofs.Common.{◌≡◌, ℕ, suc, ◌+◌, ◌-◌, ◌*◌, ◌<◌, ◌≤◌, true, false, leb, List, [], ◌∷◌, ◌++◌, length, get_or, take, drop, set, Some, None, sym, refl, ap, ◌∙◌, ap₂, append_assoc, append-nil, arith, length-append, length-drop, length-set, length-take}
 use borrow.Rule.Slice.PartMut.{put_mid}
 use Rattle.std.proofs.lemmas.List.{drop-drop, get_or-drop, get_or-take, take_at, drop_at, length-take-le, take_more, take_more_set, drop-set-lt, take-append-drop, drop_all, take_all}
 use Rattle.std.proofs.lemmas.Bool.{le-leb, lt-leb}
-use Rattle.pages.specs.Lists.{flat}
 use Rattle.pages.proofs.ListLaws.{pick_true, pick_false}
 use Rattle.pages.specs.Words.{over}
-use Rattle.trees.specs.Tree.{File, Tree}
 use Rattle.trees.specs.Row.{entry, cut, held, entries_of, in_words}
 use Rattle.trees.specs.Packed.{heading, needed, packed, packed_all, squeezed, squeeze_answer, squeeze_into}
-use Rattle.trees.proofs.RowLaws.{length_cut, take_cut, drop_cut, cut_more, flat_append}
+use Rattle.trees.proofs.RowLaws.{take_cut, drop_cut, cut_more, flat_append}
 
 pub length_packed : (e : List ℕ) → 8 ≤ length e → length (packed e) ≡ 2 + needed (get_or e 8 0)
 unfolding packed

@@ -1,8 +1,8 @@
 -- Laws of trees: what is found after a file is put or taken out, the order of paths, how many files there are.
-use Rattle.std.proofs.Common.{◌≡◌, ℕ, zero, suc, ◌+◌, ◌-◌, ◌<◌, ◌≤◌, Bool, true, false, not, ◌&&◌, eqb, ltb, leb, ◌⊎◌, List, [], ◌∷◌, ◌++◌, length, Decides, sym, refl, ap, ◌∙◌, subst, inl, inr, ⊎_elim, arith}
-use Rattle.std.proofs.lemmas.Bool.{true≢false, false≢true, and_parts, and_from, cases_Bool}
-use Rattle.pages.specs.Lists.{pick, or, every, any, each, those, same, earlier, none_of}
-use Rattle.pages.proofs.ListLaws.{pick_both, pick_true, pick_false, false_unless, same_test, In, in_left, in_right, in_append, every_in, every_from, each_in, in_each, Once, same_true, same_refl, same_from, same_tells, same_false, same_not, same_sym, earlier_refl, earlier_trans, earlier_total, earlier_not_same, earlier_one_way, earlier_else, once_length, length_each}
+use Rattle.std.proofs.Common.{◌≡◌, ℕ, suc, ◌+◌, ◌≤◌, Bool, true, false, ◌&&◌, ◌⊎◌, List, [], ◌∷◌, length, Decides, sym, refl, ap, ◌∙◌, subst, inl, inr, ⊎_elim, arith}
+use Rattle.std.proofs.lemmas.Bool.{true≢false, false≢true, and_parts, and_from}
+use Rattle.pages.specs.Lists.{pick, every, same, earlier, none_of}
+use Rattle.pages.proofs.ListLaws.{pick_both, pick_true, pick_false, same_test, In, every_in, every_from, each_in, in_each, Once, same_true, same_refl, same_from, same_tells, same_false, same_not, earlier_trans, earlier_not_same, earlier_one_way, earlier_else, once_length, length_each}
 use Rattle.trees.specs.Tree.{File, Tree, found, alike, put, without, set, same_tree, paths, both, rising_paths}
 
 -- ALIKE AND THE SAME ARE EQUALITY

@@ -1,7 +1,7 @@
 -- Where two trees differ, path by path in rising order, one at a time. Assumes nothing: these are definitions.
-use Rattle.std.specs.Prelude.{ℕ, zero, suc, ◌+◌, ◌*◌, Bool, true, false, ◌&&◌, List, [], ◌∷◌, take, drop, Some, None, Option}
+use Rattle.std.specs.Prelude.{ℕ, zero, suc, ◌+◌, ◌*◌, Bool, false, ◌&&◌, List, [], ◌∷◌, take, drop, Some, None, Option}
 use Rattle.pages.specs.Lists.{pick, same, earlier}
-use Rattle.trees.specs.Tree.{File, Tree}
+use Rattle.trees.specs.Tree.{Tree}
 use Rattle.trees.specs.Row.{path_of, entries_of}
 use Rattle.trees.specs.declared.differences.Cursor.{Cursor}
 use Rattle.trees.specs.declared.differences.Place.{Place}

@@ -1,5 +1,5 @@
 -- What trees and joining promise, as statements: each is a type whose proof stands on a contract of this crate.
-use Rattle.std.specs.Prelude.{◌≡◌, ℕ, zero, suc, ◌+◌, ◌-◌, ◌*◌, ◌/◌, ◌%◌, ◌<◌, ◌≤◌, Bool, true, false, not, ◌&&◌, eqb, ltb, leb, List, [], ◌∷◌, ◌++◌, length, get_or, take, drop}
+use Rattle.std.specs.Prelude.{◌≡◌, ℕ, true, false, List, [], ◌∷◌}
 use Rattle.pages.specs.Lists.{same}
 use Rattle.trees.specs.Tree.{Tree, found, put, without, rising_paths, joined, joined_at, clash, changed}
 

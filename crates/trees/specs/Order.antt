@@ -1,5 +1,5 @@
 -- Which of two rows of numbers comes first: one order, of which `same` and `earlier` are the two tests.
-use Rattle.std.specs.Prelude.{ℕ, zero, suc, Bool, true, false, not, ◌&&◌, List, [], ◌∷◌}
+use Rattle.std.specs.Prelude.{ℕ, suc, Bool, false, not, ◌&&◌, List, [], ◌∷◌}
 use Rattle.pages.specs.Lists.{pick, or, same, earlier}
 use Rattle.trees.specs.declared.keys.Order.{Order}
 use Rattle.trees.specs.declared.keys.Order.TheVariants.{Earlier, Same, Later}

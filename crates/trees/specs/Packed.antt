@@ -1,6 +1,6 @@
 -- A tree as it is stored: a first word with its kind and how many words there are, the number of files, the weight; then for each file its reference,
 -- the length of its path, and the path in only the words that it needs. Assumes nothing: these are definitions, total on any words.
-use Rattle.std.specs.Prelude.{ℕ, zero, suc, ◌+◌, ◌-◌, ◌*◌, ◌/◌, min, Bool, true, false, ◌&&◌, List, [], ◌∷◌, ◌++◌, length, take, drop, Some, None, Option, nat_le, slice_index}
+use Rattle.std.specs.Prelude.{ℕ, zero, suc, ◌+◌, ◌/◌, min, Bool, ◌&&◌, List, [], ◌∷◌, ◌++◌, length, take, drop, Some, None, Option, nat_le, slice_index}
 use Rattle.pages.specs.Lists.{pick, flat, zeros}
 use Rattle.trees.specs.Tree.{File, Tree}
 use Rattle.trees.specs.Row.{entry, in_words, held, room, entries_of, rewritten}

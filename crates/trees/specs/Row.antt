@@ -1,12 +1,12 @@
 -- A tree in memory, as a row of words: the number of files, the weight, then ten words for each file by rising path: the path, eight bytes to a word
 -- and padded with zeros (eight words), its length, and a reference, a number that stands for the file's bytes.
 -- An entry is a file again: its path is the nine words of path and length, the key; its bytes are the one reference. Assumes nothing: these are definitions, total on any row.
-use Rattle.std.specs.Prelude.{◌≡◌, ℕ, zero, suc, ◌+◌, ◌-◌, ◌*◌, ◌/◌, ◌<◌, ◌≤◌, min, Bool, true, false, not, ◌&&◌, List, [], ◌∷◌, ◌++◌, length, take, drop, Some, None, Ok, Err, Option, Result, nat_le, nat_lt, slice_index}
-use Rattle.pages.specs.Lists.{pick, or, every, each, flat, same, earlier, first_or, none_of, zeros, added_up}
+use Rattle.std.specs.Prelude.{ℕ, zero, suc, ◌+◌, ◌-◌, ◌*◌, ◌/◌, min, Bool, not, ◌&&◌, List, [], ◌∷◌, ◌++◌, length, take, drop, Some, None, Ok, Err, Option, Result, nat_le, nat_lt, slice_index}
+use Rattle.pages.specs.Lists.{pick, flat, first_or, none_of, zeros}
 use Rattle.pages.specs.Words.{words, bytes_of}
 use Rattle.trees.specs.declared.rows.Refused.{Refused}
 use Rattle.trees.specs.declared.rows.Refused.TheVariants.{Path, Full}
-use Rattle.trees.specs.Tree.{File, Tree, found, put, without, same_tree, rising_paths}
+use Rattle.trees.specs.Tree.{File, Tree, found, put, without}
 
 -- KEYS
 

@@ -1,5 +1,5 @@
 -- Which plain tree a row stands for, given what each reference stands for. Assumes nothing: these are definitions.
-use Rattle.std.specs.Prelude.{◌≡◌, ℕ, ◌+◌, ◌≤◌, Bool, true, false, ◌&&◌, List, [], ◌∷◌, length, slice_index_or}
+use Rattle.std.specs.Prelude.{◌≡◌, ℕ, ◌+◌, ◌≤◌, Bool, true, ◌&&◌, List, length, slice_index_or}
 use Rattle.pages.specs.Lists.{every, each, same, first_or, added_up}
 use Rattle.pages.specs.Bytes.{all_bytes}
 use Rattle.trees.specs.Tree.{File, Tree, rising_paths}

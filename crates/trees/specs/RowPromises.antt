@@ -2,7 +2,7 @@
 use Rattle.std.specs.Prelude.{◌≡◌, ℕ, ◌+◌, ◌≤◌, Bool, true, false, not, List, [], ◌∷◌, ◌++◌, length, Some, None, Ok, Err, Option, nat_le, slice_index}
 use Rattle.pages.specs.Lists.{pick, each, flat, has, same, earlier, none_of, first_or}
 use Rattle.trees.specs.declared.rows.Refused.TheVariants.{Full}
-use Rattle.trees.specs.Tree.{File, Tree, found, put, without, same_tree, both, paths, mark}
+use Rattle.trees.specs.Tree.{Tree, found, put, without, same_tree, both, paths, mark}
 use Rattle.trees.specs.Row.{key_of, path_of, room, entries_of, find_in, put_in, put_answer, take_from, taken_from}
 use Rattle.trees.specs.Packed.{squeezed, spread_fits, spread_into}
 use Rattle.trees.specs.Differ.{answers, shown}

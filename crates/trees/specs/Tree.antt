@@ -1,6 +1,6 @@
 -- Paths, files, trees, and how two trees are put together. Assumes nothing: these are definitions.
-use Rattle.std.specs.Prelude.{◌≡◌, ℕ, zero, suc, ◌+◌, ◌-◌, ◌*◌, ◌/◌, ◌%◌, ◌<◌, ◌≤◌, Bool, true, false, not, ◌&&◌, eqb, ltb, leb, List, [], ◌∷◌, ◌++◌, length, get_or, take, drop}
-use Rattle.pages.specs.Lists.{pick, or, every, any, each, those, same, earlier, none_of}
+use Rattle.std.specs.Prelude.{ℕ, Bool, true, false, not, ◌&&◌, List, [], ◌∷◌, ◌++◌}
+use Rattle.pages.specs.Lists.{pick, every, each, those, same, earlier, none_of}
 
 pub record File : Type 0 where
   pub path : List ℕ

@@ -1,4 +1,6 @@
 // Trees of files, and how two of them are put together.
+#![tactic(auto)]
+
 pub mod differences;
 mod entries;
 mod keys;

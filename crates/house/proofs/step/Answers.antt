@@ -1,4 +1,4 @@
-use Rattle.std.proofs.Common.{◌≡◌, ℕ, ◌≤◌, Bool, true, false, ◌&&◌, eqb, leb, List, length, sym, refl, ap, ◌∙◌, subst, ap₂}
+use Rattle.std.proofs.Common.{◌≡◌, ℕ, ◌≤◌, Bool, true, false, ◌&&◌, eqb, leb, List, length, sym, refl, subst, ap₂}
 use Rattle.std.proofs.lemmas.Bool.{le-leb, lt-leb, and_left, and_right}
 use Rattle.pages.specs.Run.{Event}
 use Rattle.pages.specs.Told.{event_meant}
@@ -25,13 +25,13 @@ unfolding StepSays own
 says m kind bytes out ev r m₁ out₁ e true x = subst (λ v. StepTold true house_client m v out r m₁ out₁) e x
 says m kind bytes out ev r m₁ out₁ e false x = x
 
-pub returns-in-default : goal.returns-in-default
+pub returns-in_default : goal.returns-in_default
 unfolding StepSays step_fits
-returns-in-default c =
+returns-in_default c =
     let m : List ℕ = c.args.memory.now in
     let out : List ℕ = c.args.out.now in
     let no_fit : step_fits m c.args.kind c.args.bytes.now out ≡ false =
-    and_right (eqb (length m) (length (own own_sum).start)) _ (and_left (leb c.args.kind 5) _ (lt-leb c.args.kind 5 c.in-default.ensures)) in
+    and_right (eqb (length m) (length (own own_sum).start)) _ (and_left (leb c.args.kind 5) _ (lt-leb c.args.kind 5 c.in_default.ensures)) in
     subst (λ b. StepSays m c.args.kind c.args.bytes.now out b (No 0) m out) (sym no_fit) (refl, refl, refl)
 
 pub returns : goal.returns

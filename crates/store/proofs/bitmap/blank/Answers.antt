@@ -1,4 +1,4 @@
-use Rattle.std.proofs.Common.{◌≡◌, eqb, sym, ap}
+use Rattle.std.proofs.Common.{eqb, sym, ap}
 use Rattle.std.proofs.lemmas.List.{get_or_past}
 use Rattle.store.proofs.bitmap.blank.Goals as goal
 

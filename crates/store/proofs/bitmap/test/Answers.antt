@@ -1,4 +1,4 @@
-use Rattle.std.proofs.Common.{◌≡◌, sym}
+use Rattle.std.proofs.Common.{sym}
 use Rattle.store.proofs.BitLaws.{bit_past}
 use Rattle.store.proofs.bitmap.test.Goals as goal
 

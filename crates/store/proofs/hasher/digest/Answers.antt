@@ -5,7 +5,7 @@ use Rattle.store.proofs.hasher.digest.Goals as goal
 pub loop-i-preserved : goal.loop-i-preserved
 loop-i-preserved c =
     digest_more _ _ (words_of c.args.s) _ _ c.loop-i.invariant.0 (omega arith) refl c.loop-i.invariant.1
-    (c.to-be-bytes.ensures ∙ four_is _) c.write-at.ensures
+    (c.to_be_bytes.ensures ∙ four_is _) c.write_at.ensures
 
 pub returns : goal.returns
 returns c = digest_all _ _ _ c.loop-i.invariant.0 (omega arith) c.loop-i.invariant.1

@@ -7,7 +7,7 @@ loop-b-init c = (omega arith, λ M m. m)
 
 pub loop-b-preserved : goal.loop-b-preserved
 loop-b-preserved c =
-    (c.eight-rounds-v.array_long, λ M m. mixed_at _ _ (omega arith) (c.eight-rounds-v.ensures M _ (c.loop-b.invariant.1 M m)))
+    (c.eight_rounds-v.array_long, λ M m. mixed_at _ _ (omega arith) (c.eight_rounds-v.ensures M _ (c.loop-b.invariant.1 M m)))
 
 pub loop-t-preserved : goal.loop-t-preserved
 loop-t-preserved c = λ e. rounds_more _ _ _ _ _ _ (c.loop-t.invariant e) c.constant.ensures c.round-v.ensures

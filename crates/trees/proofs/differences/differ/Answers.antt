@@ -1,4 +1,4 @@
-use Rattle.std.proofs.Common.{◌≡◌, ℕ, ◌+◌, ◌-◌, ◌*◌, ◌<◌, ◌≤◌, true, false, List, [], ◌∷◌, length, get_or, take, drop, sym, refl, ap, ◌∙◌, ap₂, arith}
+use Rattle.std.proofs.Common.{◌≡◌, ◌+◌, ◌<◌, length, drop, sym, ◌∙◌, ap₂, arith}
 use Rattle.std.proofs.lemmas.List.{drop-drop}
 use Rattle.trees.specs.Row.{entries_of, held}
 use Rattle.trees.specs.Differ.{first_difference, difference_from}
@@ -15,11 +15,11 @@ inside c =
     let b : length ns ≡ held c.args.new.now = length_cut _ _ in
     (omega (arith, w.0), omega (arith, w.1))
 
-pub overflow-add-i : goal.overflow-add-i
-overflow-add-i c = omega (arith, (inside c).0)
+pub overflow_add-i : goal.overflow_add-i
+overflow_add-i c = omega (arith, (inside c).0)
 
-pub overflow-add-j : goal.overflow-add-j
-overflow-add-j c = omega (arith, (inside c).1)
+pub overflow_add-j : goal.overflow_add-j
+overflow_add-j c = omega (arith, (inside c).1)
 
 pub loop-i-preserved : goal.loop-i-preserved
 loop-i-preserved c =

@@ -1,4 +1,4 @@
-use Rattle.std.proofs.Common.{◌≡◌, ◌-◌, length, drop}
+use Rattle.std.proofs.Common.{◌≡◌, ◌-◌, drop}
 use Rattle.trees.specs.Row.{held, entries_of}
 use Rattle.trees.specs.Differ.{first_difference}
 use Rattle.trees.proofs.differences.differ.Given as goal

@@ -1,7 +1,6 @@
-use Rattle.std.proofs.Common.{◌≡◌, ℕ, ◌+◌, ◌-◌, ◌*◌, ◌<◌, ◌≤◌, true, false, List, [], ◌∷◌, length, get_or, take, drop, sym, refl, ap, ◌∙◌, ap₂, arith}
-use Rattle.trees.specs.Row.{entries_of, held}
+use Rattle.std.proofs.Common.{◌≡◌, ◌+◌, ◌-◌, ◌*◌, sym, ◌∙◌, ap₂, arith}
 use Rattle.trees.specs.Differ.{difference_here}
-use Rattle.trees.proofs.DifferLaws.{by_order, entry_at, entry_past, here_ordered}
+use Rattle.trees.proofs.DifferLaws.{entry_at, entry_past, here_ordered}
 use Rattle.trees.proofs.differences.here.Goals as goal
 
 pub returns-then-j-count : goal.returns-then-j-count

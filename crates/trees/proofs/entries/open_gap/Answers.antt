@@ -1,4 +1,4 @@
-use Rattle.std.proofs.Common.{◌≡◌, ℕ, ◌+◌, ◌-◌, ◌≤◌, List, ◌++◌, take, drop, sym, refl, ap, ◌∙◌, arith, take-append-drop}
+use Rattle.std.proofs.Common.{◌≡◌, ◌+◌, ◌-◌, ◌++◌, take, drop, sym, ap, ◌∙◌, arith, take-append-drop}
 use native.Mathlib.Nat.{sub_self}
 use Rattle.trees.proofs.MoveLaws.{open_more}
 use Rattle.trees.proofs.entries.open_gap.Goals as goal

@@ -1,4 +1,4 @@
-use Rattle.std.proofs.Common.{◌≡◌, ℕ, ◌-◌, ◌<◌, ◌≤◌, true, leb, List, [], ◌∷◌, ◌++◌, length, Some, None, sym, refl, ap, ◌∙◌, ap₂, arith}
+use Rattle.std.proofs.Common.{◌≡◌, ℕ, ◌-◌, ◌≤◌, true, leb, List, [], ◌∷◌, ◌++◌, length, Some, None, sym, ap, ◌∙◌, arith}
 use Rattle.std.proofs.lemmas.Bool.{le-leb, and_from, eqb-false}
 use Rattle.pages.specs.Lists.{zeros}
 use Rattle.pages.specs.Words.{words}
@@ -14,5 +14,5 @@ made p b k l h e f = (and_from (leb 1 (length p)) (leb (length p) 64) (le-leb 1 
 pub returns : goal.returns
 returns c =
     let p = c.args.path.now in
-    let m = made p c.padded.result c.packed.result (omega (arith, eqb-false (length p) 0 (sym c.if-is-empty.ensures))) (omega arith) c.padded.ensures c.packed.ensures in
+    let m = made p c.padded.result c.packed.result (omega (arith, eqb-false (length p) 0 (sym c.if-is_empty.ensures))) (omega arith) c.padded.ensures c.packed.ensures in
     ap Some m.1 ∙ sym (pick_true (good_path p) (Some (key_of p)) None m.0)

@@ -1,4 +1,4 @@
-use Rattle.std.proofs.Common.{◌≡◌, ℕ, zero, suc, ◌+◌, ◌-◌, ◌*◌, ◌<◌, ◌≤◌, List, [], ◌∷◌, ◌++◌, length, take, drop, sym, refl, ap, ◌∙◌, ap₂, arith}
+use Rattle.std.proofs.Common.{◌≡◌, ℕ, ◌+◌, ◌-◌, ◌≤◌, List, ◌++◌, length, drop, sym, refl, ap, ◌∙◌, ap₂, arith}
 use native.Mathlib.Nat.{sub-zero}
 use borrow.Rule.Slice.PartMut.{post_of}
 use Rattle.pages.specs.Lists.{zeros}
@@ -15,4 +15,4 @@ filled p ys zs h e z =
 
 pub returns : goal.returns
 unfolding zeros
-returns c = filled c.args.path.now c.copy-from-slice.new.self _ c.requires c.copy-from-slice.ensures.after refl
+returns c = filled c.args.path.now c.copy_from_slice.new.self _ c.requires c.copy_from_slice.ensures.after refl

@@ -1,4 +1,4 @@
-use Rattle.std.proofs.Common.{◌≡◌, ℕ, suc, ◌+◌, ◌-◌, ◌*◌, ◌<◌, ◌≤◌, Bool, true, false, List, length, get_or, take, drop, sym, refl, ap, ◌∙◌, ap₂, add-zero, zero-add, arith}
+use Rattle.std.proofs.Common.{◌≡◌, ℕ, suc, ◌+◌, ◌-◌, ◌*◌, ◌<◌, Bool, true, false, List, take, drop, sym, ap, ◌∙◌, add-zero, zero-add, arith}
 use native.Mathlib.Nat.{sub-zero}
 use Rattle.pages.specs.Lists.{pick}
 use Rattle.trees.specs.Order.{spot, halts}

@@ -1,4 +1,4 @@
-use Rattle.std.proofs.Common.{◌≡◌, ap, ◌∙◌}
+use Rattle.std.proofs.Common.{ap, ◌∙◌}
 use Rattle.trees.proofs.KeyLaws.{halting, halts_ordered}
 use Rattle.trees.proofs.keys.stops.Goals as goal
 

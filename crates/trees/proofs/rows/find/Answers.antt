@@ -1,4 +1,4 @@
-use Rattle.std.proofs.Common.{◌≡◌, Some, None, sym, refl, ap, ◌∙◌, ap₂}
+use Rattle.std.proofs.Common.{None, sym, ap, ◌∙◌}
 use Rattle.pages.proofs.ListLaws.{pick_true, pick_false}
 use Rattle.trees.specs.Tree.{found}
 use Rattle.trees.specs.Row.{entries_of, find_in, good_path, key_of, reference_in}
@@ -11,7 +11,7 @@ returns-in-Some c =
     let p = c.args.path.now in
     let ws = c.args.row.now in
     let k = key_some (good_path p) c.in-Some.words (key_of p) c.in-Some.ensures in
-    c.find-key.ensures ∙ ap (λ x. reference_in (found (entries_of ws) x)) k.1
+    c.find_key.ensures ∙ ap (λ x. reference_in (found (entries_of ws) x)) k.1
     ∙ sym (pick_true (good_path p) (reference_in (found (entries_of ws) (key_of p))) None k.0)
 
 pub returns-in-None : goal.returns-in-None

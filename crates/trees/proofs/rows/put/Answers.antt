@@ -1,4 +1,4 @@
-use Rattle.std.proofs.Common.{◌≡◌, ℕ, ◌+◌, Bool, true, false, List, length, Ok, Err, sym, refl, ap, ◌∙◌, ap₂}
+use Rattle.std.proofs.Common.{◌≡◌, ℕ, ◌+◌, Bool, true, false, List, length, Ok, Err, sym, ap, ◌∙◌}
 use Rattle.pages.specs.Lists.{pick}
 use Rattle.pages.proofs.ListLaws.{pick_true, pick_false}
 use Rattle.trees.specs.declared.rows.Refused.TheVariants.{Path, Full}
@@ -6,11 +6,11 @@ use Rattle.trees.specs.Row.{good_path, key_of, put_answer, put_in, put_key, room
 use Rattle.trees.proofs.RowLaws.{key_some, key_none}
 use Rattle.trees.proofs.rows.put.Goals as goal
 
-pub returns-in-default : goal.returns-in-default
+pub returns-in_default : goal.returns-in_default
 unfolding put_answer put_in
-returns-in-default c =
+returns-in_default c =
     let p = c.args.path.now in let ws = c.args.row.now in let r = c.args.reference in
-    let f = key_none (good_path p) (key_of p) c.in-default.ensures in
+    let f = key_none (good_path p) (key_of p) c.in_default.ensures in
     record {
       answer = sym (pick_false (good_path p) (pick (room_for (key_of p) r ws) (Ok tt) (Err Full)) (Err Path) f);
       after = sym (pick_false (good_path p) (put_key (key_of p) (64 + length p) r ws) ws f);
@@ -26,20 +26,20 @@ changed : (p ws k new : List ℕ) (r : ℕ) → good_path p ≡ true → k ≡ k
 unfolding put_in
 changed p ws k new r g e h = h ∙ ap (λ x. put_key x (64 + length p) r ws) e ∙ sym (pick_true (good_path p) (put_key (key_of p) (64 + length p) r ws) ws g)
 
-pub returns-then-put-key : goal.returns-then-put-key
-returns-then-put-key c =
+pub returns-then-put_key : goal.returns-then-put_key
+returns-then-put_key c =
     let p = c.args.path.now in let ws = c.args.row.now in let r = c.args.reference in
     let k = key_some (good_path p) c.in-Some.words (key_of p) c.in-Some.ensures in
     record {
-      answer = answered p ws c.in-Some.words r true k.0 k.1 c.if-put-key.ensures.answer;
+      answer = answered p ws c.in-Some.words r true k.0 k.1 c.if-put_key.ensures.answer;
       after = changed p ws c.in-Some.words c.put_key.new.row r k.0 k.1 c.put_key.ensures.after;
     }
 
-pub returns-else-put-key : goal.returns-else-put-key
-returns-else-put-key c =
+pub returns-else-put_key : goal.returns-else-put_key
+returns-else-put_key c =
     let p = c.args.path.now in let ws = c.args.row.now in let r = c.args.reference in
     let k = key_some (good_path p) c.in-Some.words (key_of p) c.in-Some.ensures in
     record {
-      answer = answered p ws c.in-Some.words r false k.0 k.1 c.if-put-key.ensures.answer;
+      answer = answered p ws c.in-Some.words r false k.0 k.1 c.if-put_key.ensures.answer;
       after = changed p ws c.in-Some.words c.put_key.new.row r k.0 k.1 c.put_key.ensures.after;
     }

@@ -1,7 +1,7 @@
-use Rattle.std.proofs.Common.{◌≡◌, ℕ, ◌+◌, ◌-◌, ◌*◌, ◌<◌, ◌≤◌, Bool, true, false, List, [], ◌∷◌, ◌++◌, length, take, drop, sym, refl, ap, ◌∙◌, ap₂, arith, length-drop, length-take}
+use Rattle.std.proofs.Common.{◌≡◌, ◌+◌, ◌-◌, false, [], ◌∷◌, ◌++◌, length, take, drop, sym, ap, ◌∙◌, ap₂, arith, length-drop, length-take}
 use Rattle.std.proofs.lemmas.List.{take_rest}
 use Rattle.trees.specs.Order.{spot, there}
-use Rattle.trees.specs.Row.{cut, entry, laid, held, room, entries_of}
+use Rattle.trees.specs.Row.{cut, entry, laid, entries_of}
 use Rattle.trees.proofs.RowLaws.{length_cut, entries_cut, spot_within, there_within}
 use Rattle.trees.proofs.PutLaws.{no_room, put_some, put_over, put_full, put_between}
 use Rattle.trees.proofs.rows.put_key.Goals as goal
@@ -46,7 +46,7 @@ pub returns : goal.returns
 returns c =
     let k = c.args.key.now in let ws = c.args.row.now in let r = c.args.reference in let at = c.seek-at.result in
     let es = entries_cut ws c.count-n.result c.count-n.ensures in
-    let e = put_between k ws c.insert.new.body c.args.size r at (c.count-n.result + 1) c.saturating-add-weight.result (omega arith) (omega arith) (omega arith) (c.seek-at.ensures ∙ ap (spot false k) es)
+    let e = put_between k ws c.insert.new.body c.args.size r at (c.count-n.result + 1) c.saturating_add-weight.result (omega arith) (omega arith) (omega arith) (c.seek-at.ensures ∙ ap (spot false k) es)
     (c.if-stands.ensures ∙ ap (λ u. there k (drop at u)) es)
-    (c.insert.ensures ∙ ap₂ (λ u xs. laid (take at u ++ entry k r ∷ drop at u) xs) es (take_rest ws 2)) c.saturating-add-weight.ensures in
+    (c.insert.ensures ∙ ap₂ (λ u xs. laid (take at u ++ entry k r ∷ drop at u) xs) es (take_rest ws 2)) c.saturating_add-weight.ensures in
     record { answer = e.0; after = e.1 }

@@ -1,8 +1,8 @@
-use Rattle.std.proofs.Common.{◌≡◌, ℕ, ◌+◌, ◌-◌, ◌*◌, ◌≤◌, true, List, length, take, drop, Decides, sym, refl, ap, ◌∙◌, ap₂, arith, length-drop}
+use Rattle.std.proofs.Common.{◌≡◌, ◌+◌, ◌-◌, ◌*◌, take, drop, sym, ◌∙◌, ap₂, arith, length-drop}
 use Rattle.std.proofs.lemmas.Slice.Eq.{slice_eq-Decides}
 use Rattle.std.proofs.lemmas.Bool.{eq-eqb}
 use Rattle.trees.specs.Tree.{same_tree}
-use Rattle.trees.specs.Row.{cut, held, room, entries_of}
+use Rattle.trees.specs.Row.{cut, held}
 use Rattle.trees.proofs.RowLaws.{same_words, same_many}
 use Rattle.trees.proofs.rows.same.Goals as goal
 use Rattle.std.proofs.lemmas.Bool.Decides.{Decides-eqb}
@@ -24,7 +24,7 @@ pub returns-else-n-eq0 : goal.returns-else-n-eq0
 returns-else-n-eq0 c =
     let a = c.args.a.now in let b = c.args.b.now in let n = c.count-n.result in
     let w : 10 * n + 2 - 2 ≡ 10 * n = omega arith in
-    let d = slice_eq-Decides Decides-eqb _ _ _ c.eq.ensures in
+    let d = slice_eq-Decides Decides-eqb (take (10 * n + 2 - 2) (drop 2 a)) (take (10 * n + 2 - 2) (drop 2 b)) _ c.eq.ensures in
     let m : n ≡ held b = omega arith in
     same_words n (drop 2 a) (drop 2 b) c.eq.result (omega (arith, length-drop 2 a)) (omega (arith, length-drop 2 b)) (rw w at d)
     ∙ ap₂ (λ i j. same_tree (cut i (drop 2 a)) (cut j (drop 2 b))) c.count-n.ensures m

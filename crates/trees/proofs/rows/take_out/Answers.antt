@@ -1,4 +1,4 @@
-use Rattle.std.proofs.Common.{◌≡◌, ◌+◌, ◌&&◌, length, sym, refl, ap, ◌∙◌, ap₂}
+use Rattle.std.proofs.Common.{◌+◌, ◌&&◌, length, sym, ap, ◌∙◌, ap₂}
 use Rattle.std.proofs.lemmas.Bool.{and_left}
 use Rattle.pages.proofs.ListLaws.{pick_true, pick_false}
 use Rattle.trees.specs.Row.{good_path, has_key, key_of, take_from, take_key, taken_from}

@@ -1,6 +1,6 @@
-use Rattle.std.proofs.Common.{◌≡◌, ℕ, ◌+◌, ◌-◌, ◌*◌, ◌<◌, ◌≤◌, List, [], ◌∷◌, ◌++◌, length, get_or, take, drop, sym, refl, ap, ◌∙◌, ap₂, arith, length-append, length-drop, length-take}
+use Rattle.std.proofs.Common.{◌≡◌, ◌*◌, length, take, drop, refl, ap, ◌∙◌, arith, length-append}
 use Rattle.trees.specs.Row.{cut}
-use Rattle.trees.specs.Packed.{needed, packed, packed_all}
+use Rattle.trees.specs.Packed.{packed, packed_all}
 use Rattle.trees.proofs.StoredLaws.{packed_push, length_at}
 use Rattle.trees.proofs.stored.measure.Goals as goal
 

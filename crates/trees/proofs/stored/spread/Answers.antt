@@ -1,4 +1,4 @@
-use Rattle.std.proofs.Common.{◌≡◌, ℕ, ◌+◌, ◌-◌, ◌*◌, ◌<◌, ◌≤◌, true, false, leb, List, [], ◌∷◌, ◌++◌, length, get_or, take, drop, sym, refl, ap, ◌∙◌, ap₂, arith, length-append, length-drop, length-set, length-take}
+use Rattle.std.proofs.Common.{leb, length, get_or, drop, refl, ap, ◌∙◌, arith}
 use Rattle.std.proofs.lemmas.Bool.{lt-leb, and_left, and_right}
 use Rattle.std.proofs.lemmas.List.{take_rest}
 use Rattle.trees.specs.Row.{laid, room}
@@ -21,6 +21,6 @@ returns-then-n-space c =
 pub returns : goal.returns
 returns c =
     let ws = c.args.row.now in let xs = c.args.stored.now in
-    let e = spread_done xs ws c.unpack-all.new.body c.word-n.result c.word.result c.word-n.result (omega arith) c.word-n.ensures (omega arith) refl c.word.ensures
-    (c.unpack-all.ensures ∙ ap (laid (unpacked_all c.word-n.result (drop 3 xs))) (take_rest ws 2)) in
+    let e = spread_done xs ws c.unpack_all.new.body c.word-n.result c.word.result c.word-n.result (omega arith) c.word-n.ensures (omega arith) refl c.word.ensures
+    (c.unpack_all.ensures ∙ ap (laid (unpacked_all c.word-n.result (drop 3 xs))) (take_rest ws 2)) in
     record { answer = e.0; after = e.1 }

@@ -1,8 +1,8 @@
-use Rattle.std.proofs.Common.{◌≡◌, ℕ, ◌+◌, ◌-◌, ◌*◌, ◌<◌, ◌≤◌, true, false, List, [], ◌∷◌, ◌++◌, length, get_or, take, drop, sym, refl, ap, ◌∙◌, ap₂, arith, length-append, length-drop, length-set, length-take}
+use Rattle.std.proofs.Common.{◌≡◌, ◌+◌, ◌-◌, ◌*◌, get_or, drop, sym, refl, ap, ◌∙◌, arith}
 use native.Mathlib.Nat.{sub-zero}
 use Rattle.std.proofs.lemmas.List.{get_or-drop}
 use Rattle.trees.specs.Row.{cut}
-use Rattle.trees.specs.Packed.{needed, stride, unpacked_all}
+use Rattle.trees.specs.Packed.{needed, unpacked_all}
 use Rattle.trees.proofs.SpreadLaws.{spread_more, spread_all}
 use Rattle.trees.proofs.stored.unpack_all.Goals as goal
 
@@ -15,8 +15,8 @@ loop-i-preserved c =
     let i = c.loop-i.i in let xs = c.args.stored.now in let at = c.loop-i.at in
     let w : 10 * i + 10 - 10 * i ≡ 10 = omega arith in
     let k : c.path_words.result ≡ needed (get_or (drop at xs) 1 0) = c.path_words.ensures ∙ ap needed (c.word.ensures ∙ sym (get_or-drop at xs 1 0)) in
-    let e = spread_more i c.args.n at (at + (2 + c.path_words.result)) (10 * i + 10 - 10 * i) xs c.loop-i.body c.args.body.now c.copy-from-slice.new.self (omega arith) (omega arith) w
-    (c.copy-from-slice.ensures.after ∙ c.unpack.ensures) (ap (λ m. at + (2 + m)) k) c.loop-i.invariant.1 c.loop-i.invariant.2 in
+    let e = spread_more i c.args.n at (at + (2 + c.path_words.result)) (10 * i + 10 - 10 * i) xs c.loop-i.body c.args.body.now c.copy_from_slice.new.self (omega arith) (omega arith) w
+    (c.copy_from_slice.ensures.after ∙ c.unpack.ensures) (ap (λ m. at + (2 + m)) k) c.loop-i.invariant.1 c.loop-i.invariant.2 in
     (omega (arith, c.loop-i.invariant.0, c.path_words.ensures), e.0, e.1)
 
 pub returns : goal.returns

@@ -15,9 +15,9 @@ returns c =
     let after : progress (counts c.if-len-room.self size) ≡ added (progress c.args.self.now) c.args.bytes.now
     = elim c.if-len-room.branch [
       | then-len-room w ↦ ap (λ h. progress (counts h size)) w.self-is
-          ∙ add_few _ _ _ _ whole _ w.if-len-room.true w.write-at.ensures
+          ∙ add_few _ _ _ _ whole _ w.if-len-room.true w.write_at.ensures
       | else-len-room w ↦ ap (λ h. progress (counts h size)) w.self-is
-          ∙ add_whole _ _ _ _ whole w.if-len-room.false _ _ _ _ w.write-at-else-len-room.ensures w.compress.ensures w.compress-all-self.ensures
-          w.write-at-else-len-room-2.ensures
+          ∙ add_whole _ _ _ _ whole w.if-len-room.false _ _ _ _ w.write_at-else-len-room.ensures w.compress.ensures w.compress_all-self.ensures
+          w.write_at-else-len-room-2.ensures
     ] in
     record { after = after; fed = λ m f. after ∙ ap (λ p. added p c.args.bytes.now) f ∙ added_added _ m _ }

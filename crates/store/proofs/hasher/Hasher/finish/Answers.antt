@@ -8,7 +8,7 @@ pub returns : goal.returns
 unfolding finished
 returns c =
     let whole : length c.args.self.buffer ≡ 64 = omega arith in
-    let last = last_is c.args.self.buffer c.args.self.count 128 whole refl _ _ _ _ c.write-at.ensures refl c.to-be-bytes.ensures c.write-at-2.ensures in
+    let last = last_is c.args.self.buffer c.args.self.count 128 whole refl _ _ _ _ c.write_at.ensures refl c.to_be_bytes.ensures c.write_at-2.ensures in
     let after : c.digest.result ≡ finished (progress c.args.self)
-    = c.digest.ensures ∙ ap digest (c.compress-all.ensures ∙ ap (λ (b : List ℕ). hashed (length b / 64) c.args.self.state b) last) in
+    = c.digest.ensures ∙ ap digest (c.compress_all.ensures ∙ ap (λ (b : List ℕ). hashed (length b / 64) c.args.self.state b) last) in
     record { after = after; fed = λ m f. after ∙ ap finished f ∙ finished_added m }
