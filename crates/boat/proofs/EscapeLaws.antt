@@ -1,5 +1,5 @@
 -- How text with escapes is read: from its front, byte by byte.
-use Rattle.std.proofs.Common.{◌≡◌, ℕ, ◌<◌, List, [], ◌∷◌, ◌++◌, length, Some, sym, refl, append_assoc, append-nil, arith}
+use Rattle.std.proofs.Common.{◌≡◌, ℕ, List, [], ◌∷◌, ◌++◌, length, Some, sym, append_assoc, append-nil, arith}
 use Rattle.boat.specs.Hex.{byte_read}
 use Rattle.boat.specs.Escape.{Gives, Stands, hexed, itself, letter_read, named, nothing}
 

@@ -1,9 +1,9 @@
 -- Bytes in hexadecimal, and back.
-use Rattle.std.proofs.Common.{◌≡◌, ℕ, ◌+◌, ◌-◌, ◌*◌, ◌/◌, ◌%◌, ◌<◌, ◌≤◌, Bool, true, false, cond, ◌&&◌, ltb, List, [], ◌∷◌, ◌++◌, length, get_or, take, drop, Some, None, Option, sym, refl, ap, ◌∙◌, append_assoc, arith}
+use Rattle.std.proofs.Common.{◌≡◌, ℕ, ◌+◌, ◌-◌, ◌*◌, ◌/◌, ◌%◌, ◌<◌, ◌≤◌, Bool, true, ◌&&◌, ltb, List, [], ◌∷◌, ◌++◌, length, get_or, take, drop, Some, None, Option, sym, refl, ap, ◌∙◌, append_assoc, arith}
 use Rattle.std.proofs.lemmas.List.{take_more, take_all}
 use Rattle.std.proofs.lemmas.Bool.Decides.{nat_tests}
 use Rattle.pages.specs.Bytes.{all_bytes}
-use Rattle.boat.specs.Hex.{ReadBack, before, byte_read, bytes_read, digit, digit_read, digits, two}
+use Rattle.boat.specs.Hex.{ReadBack, before, byte_read, bytes_read, digit, digit_read, digits}
 
 pub digits-++ : (xs ys : List ℕ) → digits (xs ++ ys) ≡ digits xs ++ digits ys
 digits-++ [] ys = refl

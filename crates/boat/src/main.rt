@@ -1,4 +1,6 @@
 // A house on a file of pages, with its commands on standard input.
+#![tactic(auto)]
+
 mod driver;
 mod escape;
 mod hex;
@@ -77,10 +79,8 @@ fn answer(rt: &HostRuntime, driver: &mut Driver, number: u64, line: &[u8]) -> Re
 // Answers each line of standard input.
 fn serve(rt: &HostRuntime, driver: &mut Driver) -> Result<(), Trouble> {
     let mut number = 0u64;
-    for line in BufReader::new(rt.alloc(), rt.stdin())
-        .map_err(|_| std::alloc::AllocError)?
-        .split(rt.alloc(), b'\n')
-    {
+    let input = system("read a line", BufReader::new(rt.alloc(), rt.stdin()))?;
+    for line in input.split(rt.alloc(), b'\n') {
         let line = system("read a line", line)?;
         number = number.saturating_add(1);
         answer(rt, driver, number, line.as_slice())?;

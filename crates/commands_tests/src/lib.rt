@@ -1,4 +1,6 @@
 // Tests of `commands`, in a crate of their own since a crate with tests is proved twice.
+#![tactic(auto)]
+
 #[cfg(test)]
 mod tests {
     use commands::{Command, parse, spell};

@@ -1,5 +1,5 @@
 -- A client that lays or looks at 64 KiB again and again, to measure. Assumes nothing: these are definitions.
-use Rattle.std.specs.Prelude.{ℕ, ◌-◌, List, [], ◌∷◌, length, ◌==◌, slice_index}
+use Rattle.std.specs.Prelude.{ℕ, ◌-◌, List, ◌∷◌, length, ◌==◌, slice_index}
 use Rattle.pages.specs.Lists.{pick, zeros}
 use Rattle.pages.specs.Machine.{Asked, asked}
 use Rattle.pages.specs.declared.machine.Request.TheVariants.{Look, Lay, Finish}

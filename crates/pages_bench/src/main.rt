@@ -1,4 +1,6 @@
 // Lays and looks of 64 KiB through the request machine, on a device in memory: how long a thousand of each take.
+#![tactic(auto)]
+
 mod mover;
 
 use mover::Mover;

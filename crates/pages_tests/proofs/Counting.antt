@@ -1,19 +1,19 @@
 -- The counting client goes well on the tape. Assumes nothing.
-use Rattle.std.proofs.Common.{◌≡◌, ℕ, zero, suc, ◌+◌, ◌-◌, ◌*◌, ◌<◌, ◌≤◌, min, Bool, true, false, eqb, ltb, ◌⊎◌, List, [], ◌∷◌, ◌++◌, length, get_or, take, drop, set, sym, refl, ap, ◌∙◌, subst, subst₂, inl, inr, arith, length-append, length-drop, length-set}
-use Rattle.std.proofs.lemmas.List.{get_or_append_left, get_or-append_right, get_or-set_same, get_or-set_other, take_at, take_all, length-take-le, get_or-take, get_or-drop}
+use Rattle.std.proofs.Common.{◌≡◌, ℕ, suc, ◌+◌, ◌-◌, ◌*◌, ◌<◌, ◌≤◌, min, eqb, ltb, ◌⊎◌, List, [], ◌∷◌, ◌++◌, length, get_or, take, drop, set, sym, refl, ap, ◌∙◌, subst, subst₂, inl, inr, arith, length-append, length-drop, length-set}
+use Rattle.std.proofs.lemmas.List.{get_or_append_left, get_or-append_right, get_or-set_same, take_at, take_all, length-take-le, get_or-take, get_or-drop}
 use Rattle.std.proofs.lemmas.Bool.{eq-eqb, ne_eqb, le-ltb}
 use Rattle.pages.specs.Lists.{pick}
 use Rattle.pages.specs.Bytes.{eight}
 use Rattle.pages.specs.Words.{bytes_of, over}
 use Rattle.pages.specs.Crash.{Rows}
 use Rattle.pages.specs.Engine.{bulk_cells}
-use Rattle.pages.specs.Machine.{Asked, asked, buffer_words}
+use Rattle.pages.specs.Machine.{Asked, asked}
 use Rattle.pages.specs.Tape.{first_page, last_page, published, Window, Does, recalls, looks, lays, publishes, rows, finishes}
-use Rattle.pages.specs.declared.machine.Request.TheVariants.{Recall, Look, Lay, Publish, Show, Finish}
+use Rattle.pages.specs.declared.machine.Request.TheVariants.{Look, Lay, Publish, Show, Finish}
 use Rattle.pages.proofs.ListLaws.{pick_true, pick_false}
 use Rattle.pages.proofs.BytesLaws.{length_eight}
 use Rattle.pages.proofs.WordLaws.{length_over}
-use Rattle.pages_tests.specs.Counter.{counter, counter_hears, counter_resumes, recalled, counted, laid, counting, Counted, CountsUp}
+use Rattle.pages_tests.specs.Counter.{counter, counter_hears, counter_resumes, laid, counting, Counted, CountsUp}
 use Rattle.pages_tests.specs.declared.counter.Counter.{Counter}
 
 -- the first eight bytes of a row whose first word is set

@@ -1,4 +1,6 @@
 // Runs a client that counts against a device in memory, with a stop at every act and every outcome of the waiting writes.
+#![tactic(auto)]
+
 mod counter;
 mod device;
 

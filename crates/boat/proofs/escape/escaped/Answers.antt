@@ -1,6 +1,6 @@
 use Rattle.boat.proofs.EscapeLaws.{named_gives}
 use Rattle.boat.proofs.escape.escaped.Goals as goal
 
-pub returns-in-ok-named : goal.returns-in-ok-named
-returns-in-ok-named c =
-    named_gives _ _ _ _ c.in-ok-letter.ensures.cases.0 c.in-ok-named.ensures
+pub returns-in_ok-named : goal.returns-in_ok-named
+returns-in_ok-named c =
+    named_gives _ _ _ _ c.in_ok-letter.ensures.cases.0 c.in_ok-named.ensures

@@ -5,7 +5,7 @@ use Rattle.boat.proofs.escape.unescaped.Goals as goal
 
 pub loop-rest-preserved : goal.loop-rest-preserved
 loop-rest-preserved c =
-    one_more _ _ _ _ _ _ c.loop-rest.invariant c.in-Some.ensures c.in-ok-push.ensures.items
+    one_more _ _ _ _ _ _ c.loop-rest.invariant c.in-Some.ensures c.in_ok-push.ensures.items
 
 pub returns : goal.returns
 returns c =

@@ -6,4 +6,4 @@ pub loop-rest-preserved : goal.loop-rest-preserved
 loop-rest-preserved c =
     let long : 2 ≤ length c.loop-rest.rest.now = omega arith in
     read_more c.args.text.now c.loop-rest.rest.now (take (length c.loop-rest.rest.now - 2) (drop 2 c.loop-rest.rest.now)) _ _ _ _ _
-    c.loop-rest.invariant (front_two _ long) c.in-Some.ensures c.in-ok-push.ensures.items
+    c.loop-rest.invariant (front_two _ long) c.in-Some.ensures c.in_ok-push.ensures.items

@@ -1,4 +1,4 @@
-use Rattle.pages_tests.proofs.counter.CounterClient.{counts_up}
+use Rattle.pages_tests.proofs.Counting.{counts_up}
 use Rattle.pages_tests.proofs.counter.counts_up.Goals as goal
 
 pub returns : goal.returns
