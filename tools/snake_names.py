@@ -29,6 +29,9 @@ def files(root):
 
 
 def has_dash(name):
+    """Whether a name is to be turned: it has a dash between letters, or is a type's with an underscore."""
+    if re.match(r"[A-Z][A-Za-z0-9]*[a-z0-9]_[a-z]", name):
+        return True
     return re.search(r"[^\W_]-[^\W_]", name) is not None or re.search(r"[A-Za-z0-9_'₀-₉]-[A-Za-z0-9]", name) is not None
 
 
@@ -42,7 +45,8 @@ def declared(text):
     """The names with a dash that a proof or a definition file declares, and not those of goals."""
     found = set()
     for line in text.split("\n"):
-        if line.lstrip().startswith(("--", "use ", "pub use ")):
+        found.update(re.findall(r" as (" + NAME + r")", line) if line.lstrip().startswith(("use ", "pub use ", "ghost use ")) else ())
+        if line.lstrip().startswith(("--", "use ", "pub use ", "ghost use ")):
             continue
         for it in (HEADED.match(line),):
             if it:
@@ -80,7 +84,8 @@ def imports(text):
         for word in it.group(2).split(","):
             word = word.strip()
             if word:
-                found.add((it.group(1), word.split(" as ")[-1].strip(), word.split(" as ")[0].strip()))
+                if " as " not in word:
+                    found.add((it.group(1), word, word))
     return found
 
 
@@ -96,8 +101,8 @@ def main(argv):
     for f, t in texts.items():
         for it in WORD.finditer(t):
             all_words[it.group()] += 1
+        own |= declared(t if f.endswith(".antt") else "\n".join(line for line in t.split("\n") if line.startswith("ghost use ")))
         if f.endswith(".antt"):
-            own |= declared(t)
             goals |= made(t)
     library = collections.defaultdict(set)
     for f, t in texts.items():

@@ -1,12 +1,12 @@
 -- How events and acts are told: what each case of the code's enums means. Assumes nothing: these are definitions.
 use Rattle.std.specs.Prelude.{◌≡◌, ℕ, ◌+◌, ◌*◌, List, ◌++◌, length, drop}
 use Rattle.pages.specs.Run.{Event, on, said, page, next, heard, lost, Act, read, write, flush, shows, send, done, refused}
-use Rattle.pages.specs.declared.told.Event.{Event as Told-event}
+use Rattle.pages.specs.declared.told.Event.{Event as ToldEvent}
 use Rattle.pages.specs.declared.told.Event.TheVariants.{On, Said, Page, Next, Heard, Lost}
 use Rattle.pages.specs.declared.told.Told.{Told}
 use Rattle.pages.specs.declared.told.Told.TheVariants.{Read, Write, Flush, Shows, Send, Done, No}
 
-abbrev pub event_meant : Told-event → Event
+abbrev pub event_meant : ToldEvent → Event
 event_meant (On c hs ps) = on c hs ps
 event_meant (Said text) = said text.now
 event_meant (Page bytes) = page bytes.now

@@ -2,7 +2,7 @@
 #![tactic(auto)]
 
 pub mod book;
-pub mod house;
+pub mod houses;
 pub mod refusal;
 pub mod tree;
 pub mod weight;

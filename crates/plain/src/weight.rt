@@ -1,6 +1,6 @@
 // How much a house has to keep, and how much it lacks of another, in bytes.
 use crate::book::Book;
-use crate::house::{House, Plain};
+use crate::houses::{House, Plain};
 use crate::tree::Tree;
 use std::alloc::AllocError;
 

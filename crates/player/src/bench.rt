@@ -7,7 +7,7 @@ use crate::random::Dice;
 use crate::text::{history, put_escaped, put_number, spelled, status};
 use commands::{Command, parse};
 use pages::bytes::number;
-use plain::house::{House, Past, Plain};
+use plain::houses::{House, Past, Plain};
 use plain::weight;
 use std::alloc::{AllocError, Global};
 

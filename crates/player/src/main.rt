@@ -13,7 +13,7 @@ use anyhow::anyhow;
 use bench::{Bench, Counts};
 use commands::parse;
 use day::{Day, Item, What, put_item};
-use plain::house::{Form, Plain, Turn};
+use plain::houses::{Form, Plain, Turn};
 use plain::weight;
 use random::Dice;
 use std::alloc::{AllocError, Global};

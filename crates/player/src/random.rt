@@ -6,7 +6,7 @@ use crate::device::Left;
 use crate::engine::KNOWN;
 use crate::text::{fetch, history, leave, spelled, status, sweep};
 use commands::Command;
-use plain::house::Plain;
+use plain::houses::Plain;
 use std::alloc::{AllocError, Global};
 
 // A row of numbers that depends on nothing but its seed.

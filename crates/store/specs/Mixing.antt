@@ -10,5 +10,5 @@ pub record Mixed (M : List ℕ) (s : Words) (t : ℕ) (v : Words) (w : List ℕ)
   pub done : v ≡ rounds t (schedule 64 M) s
 
 -- whatever the block and the state that it started from, n rounds more
-abbrev pub Goes_on : ℕ → ℕ → Words → List ℕ → Words → List ℕ → Type 0
-Goes_on n t v w v' w' = (M : List ℕ) (s : Words) → Mixed M s t v w → Mixed M s (t + n) v' w'
+abbrev pub GoesOn : ℕ → ℕ → Words → List ℕ → Words → List ℕ → Type 0
+GoesOn n t v w v' w' = (M : List ℕ) (s : Words) → Mixed M s t v w → Mixed M s (t + n) v' w'

@@ -1,6 +1,6 @@
 // The words of the sum: SHA-256's functions, schedule and rounds, as the standard has them.
 ghost use Rattle.std.specs.Prelude.{◌≡◌, ◌+◌, ◌/◌, ◌<◌, ◌≤◌, length, take, slice_index};
-ghost use Rattle.store.specs.Mixing.{Goes_on};
+ghost use Rattle.store.specs.Mixing.{GoesOn};
 ghost use Rattle.store.specs.Sha256.{Ch, Maj, Σ₀, Σ₁, σ₀, σ₁, K, round, word, extension, schedule, compressed, hashed};
 
 // The eight words of a hash value, and the eight working variables.
@@ -188,7 +188,7 @@ fn extension(w: &[u32; 64], t: usize) -> u32
 // Eight rounds from round t on, each with a word more of the schedule: the two do not wait for each other.
 fn eight_rounds(s: Words, w: &mut [u32; 64], t: usize) -> Words
     requires { t + 8 ≤ 48 }
-    ensures { Goes_on 8 t s w.old result w.new }
+    ensures { GoesOn 8 t s w.old result w.new }
 {
     let mut v = s;
     for i in 0..8 {
