@@ -1,6 +1,6 @@
 #!/usr/bin/env bash
 # The house's own sum beside the machine's programs, on the same 64 MiB of noise: the best of nine runs of each, taken in turn.
-# Before: rt check store_bench
+# Before: (cd crates/store_bench && rt run)
 set -eu
 cd "$(dirname "$0")/.."
 mib=64
@@ -12,7 +12,7 @@ head -c $((mib * 1048576)) /dev/urandom > "$file"
 names=(own sha256sum openssl openssl-plain)
 run() {
     case $1 in
-    own) target/bin/store_bench "$file" ;;
+    own) crates/store_bench/out/store_bench "$file" ;;
     sha256sum) sha256sum "$file" ;;
     openssl) openssl dgst -sha256 -r "$file" ;;
     # without the processor's own instructions for the sum, nor its wide registers

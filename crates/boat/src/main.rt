@@ -13,6 +13,7 @@ use driver::{Driver, End, print_row};
 use line::{Asked, asked_by};
 use page_file::{PageFile, is_house};
 use std::io::{BufRead, BufReader};
+use std::process::ExitCode;
 use std::{env, fs, io};
 use trouble::{Trouble, system};
 
@@ -106,16 +107,25 @@ fn report(rt: &HostRuntime, path: &str, res: Result<(), Trouble>) -> Result<(), 
     res
 }
 
-fn main(rt: HostRuntime) -> Result<(), Trouble> {
-    let mut words = system("read the arguments", env::args(&rt))?.skip(1);
+// Takes the arguments, and serves the house that they name.
+fn start(rt: &HostRuntime) -> Result<(), Trouble> {
+    let mut words = system("read the arguments", env::args(rt))?.skip(1);
     match (words.next(), words.next(), words.next()) {
         (Some(path), pages, None) => {
             let path = path.as_str();
-            report(&rt, path, run(&rt, path, pages))
+            report(rt, path, run(rt, path, pages))
         }
         _ => {
             let _ = eprintln!(rt; "usage: boat FILE [PAGES]");
             Err(Trouble::Usage)
         }
+    }
+}
+
+// What stopped the program has been said in one line, so only the status is left to tell.
+fn main(rt: HostRuntime) -> ExitCode {
+    match start(&rt) {
+        Ok(()) => ExitCode::SUCCESS,
+        Err(_) => ExitCode::FAILURE,
     }
 }
