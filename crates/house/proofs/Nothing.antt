@@ -7,7 +7,7 @@ use Rattle.pages.specs.Engine.{engine, Lawful}
 use Rattle.pages.specs.Machine.{capped}
 use Rattle.pages.specs.Device.{blank}
 use Rattle.pages.specs.Tape.{last_page, Tied, finishes}
-use Rattle.pages.proofs.WordLaws.{small_from, small_getD, small_zeros, length_zeros}
+use Rattle.pages.proofs.WordLaws.{small_from, small_get_or, small_zeros, length_zeros}
 use Rattle.pages.proofs.EngineLaws.{keeps_length, keeps_small}
 use Rattle.pages.proofs.TapeLaws.{tied_new}
 use Rattle.history.specs.Book.{Sum}
@@ -35,7 +35,7 @@ lawful =
     record {
       load_save = λ k. refl;
       save_length = λ k. ap (λ n. suc (suc (suc n))) (length_zeros 117);
-      load_small = λ cs h. saved_small (get_or cs 0 0) (get_or cs 1 0) (get_or cs 2 0) (small_getD cs 0 h) (small_getD cs 1 h) (small_getD cs 2 h);
+      load_small = λ cs h. saved_small (get_or cs 0 0) (get_or cs 1 0) (get_or cs 2 0) (small_get_or cs 0 h) (small_get_or cs 1 h) (small_get_or cs 2 h);
       wakes_small = λ k c hs ps h. saved_small (capped c) (capped hs) (capped ps) (omega arith) (omega arith) (omega arith);
       hears_length = λ k m text. refl;
       hears_small = λ k m text sk sm. record { state = sk; memory = sm; request = finish_small (parsed text) };

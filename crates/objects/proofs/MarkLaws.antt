@@ -18,7 +18,7 @@ use Rattle.objects.specs.Heap.{Live, root, named, Placed, Heap, rising, units, h
 use Rattle.objects.specs.Marking.{glance, walk, stride, with_reference, with_references, run_from, begun, unmarked, rooted, references_met, key_met, key_words, found_now, map_met, met_walk, met_memory, sought_at, sought, went_on, walked, Walks, Keeps, Marked, Marks}
 use Rattle.objects.specs.declared.mark.Key.{Key}
 use Rattle.objects.specs.declared.mark.Walk.{Walk}
-use Rattle.store.proofs.BitLaws.{getD_zeros, bits_set, set_here, run_set, small_with_bit, small_with_run, zero_word, finds}
+use Rattle.store.proofs.BitLaws.{get_or_zeros, bits_set, set_here, run_set, small_with_bit, small_with_run, zero_word, finds}
 use Rattle.objects.proofs.PlanLaws.{
   part_of_front,
   part_of_append,
@@ -36,7 +36,7 @@ use Rattle.objects.proofs.PlanLaws.{
 
 -- THE MAP'S BITS
 no_bits : (n v : ℕ) → bit (zeros n) v ≡ false
-no_bits n v = zero_word (zeros n) (v / 64) v (getD_zeros n (v / 64)) refl
+no_bits n v = zero_word (zeros n) (v / 64) v (get_or_zeros n (v / 64)) refl
 
 -- a bit that is set stays, whatever bit is set
 bit_stays : (ws : List ℕ) (u v : ℕ) → bit ws v ≡ true → bit (with_bit ws u) v ≡ true

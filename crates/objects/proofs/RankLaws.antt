@@ -11,7 +11,7 @@ use Rattle.std.proofs.lemmas.List.Sums.{sum_by_more, sum_by-take-drop}
 use Rattle.std.proofs.lemmas.Bool.{cases_lt, cases_eq, eq-eqb, ne_eqb, lt-ltb, le-ltb}
 use Rattle.pages.specs.Lists.{pick}
 use Rattle.pages.specs.Words.{over, small}
-use Rattle.pages.proofs.WordLaws.{small_getD, length_over}
+use Rattle.pages.proofs.WordLaws.{small_get_or, length_over}
 use Rattle.store.specs.Bitmap.{bit}
 use Rattle.objects.specs.Plan.{map_of, map_units, counts_of, counts_at, counts_words, plan_end}
 use Rattle.objects.specs.Ranks.{one_if, count_below, counts, tallied, block_of, ranked_by, ranked, TallyHolds, Ranks, RanksTallied}
@@ -66,7 +66,7 @@ whole_counts ws (suc i) s h =
       arith,
       ap (count_below (bit ws)) a,
       word_counts ws i 64 (omega arith),
-      ap ones (mod-eq_of_lt (small_getD ws i s)),
+      ap ones (mod-eq_of_lt (small_get_or ws i s)),
       whole_counts ws i s (omega arith),
       sum_by_more ones ws i 0 h,
       ap (λ j. sum_by ones (take j ws)) b,

@@ -13,7 +13,7 @@ use Rattle.pages.specs.declared.machine.Serving.{Serving}
 use Rattle.pages.specs.declared.machine.Serving.TheVariants.{Idle, Recalling, Looking, Opening, Laying, Flushing, Heading, Settling, Showing}
 use Rattle.pages.specs.declared.machine.Machine.{Machine}
 use Rattle.pages.proofs.ListLaws.{pick_both, pick_true}
-use Rattle.pages.proofs.WordLaws.{small_append, small_take, small_drop, small_over, small_first, small_from, small_getD, page_words_small}
+use Rattle.pages.proofs.WordLaws.{small_append, small_take, small_drop, small_over, small_first, small_from, small_get_or, page_words_small}
 
 -- cells hold the machine
 machine_cells_length : (r : Machine) → length (machine_cells r) ≡ 8
@@ -267,10 +267,10 @@ module _ {K : Type 0} (f : Housed K) (law : Lawful f) where
       served_fit (Unit {0}) (machine_in m).ring (machine_in m).serving (f.load (take 120 (drop 8 m))) (drop 128 m) ev
       (record {
         length_is = omega (arith, length-drop 128 m);
-        ring_small = λ _. small_getD m 0 h;
+        ring_small = λ _. small_get_or m 0 h;
         state_small = λ _. law.load_small (take 120 (drop 8 m)) (small_take 120 (drop 8 m) (small_drop 8 m h));
         memory_small = λ _. small_drop 128 m h;
       })
-      (λ _. serving_in_small (get_or m 1 0) (get_or m 2 0) (get_or m 3 0) (get_or m 4 0) (small_getD m 2 h) (small_getD m 3 h) (small_getD m 4 h)) in
+      (λ _. serving_in_small (get_or m 1 0) (get_or m 2 0) (get_or m 3 0) (get_or m 4 0) (small_get_or m 2 h) (small_get_or m 3 h) (small_get_or m 4 h)) in
       small_append _ _ (v.machine_small tt) (small_append _ _ (v.state_small tt) (v.memory_small tt)))
       (λ _. h)

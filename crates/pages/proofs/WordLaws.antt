@@ -48,10 +48,10 @@ pub small_from : (x : ℕ) (xs : List ℕ) → x < 2 ^ 64 → small xs ≡ true 
 unfolding small
 small_from x xs h k = and_from (ltb x 18446744073709551616) (small xs) (lt-ltb x 18446744073709551616 h) k
 
-pub small_getD : (xs : List ℕ) (i : ℕ) → small xs ≡ true → get_or xs i 0 < 2 ^ 64
-small_getD [] i h = omega arith
-small_getD (x ∷ xs) zero h = (small_first x xs h).0
-small_getD (x ∷ xs) (suc i) h = small_getD xs i (small_first x xs h).1
+pub small_get_or : (xs : List ℕ) (i : ℕ) → small xs ≡ true → get_or xs i 0 < 2 ^ 64
+small_get_or [] i h = omega arith
+small_get_or (x ∷ xs) zero h = (small_first x xs h).0
+small_get_or (x ∷ xs) (suc i) h = small_get_or xs i (small_first x xs h).1
 
 pub length_over : (g : ℕ) (new old : List ℕ) → g + length new ≤ length old → length (over g new old) ≡ length old
 length_over g new old h =

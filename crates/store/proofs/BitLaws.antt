@@ -7,17 +7,17 @@ use Rattle.std.proofs.lemmas.List.{get_or_past, set_past, get_or-set_same, get_o
 use Rattle.std.proofs.lemmas.Bool.{cases_lt, cases_eq, eq-eqb, ne_eqb, lt-ltb, le-ltb, and_left, and_right, and_from}
 use Rattle.pages.specs.Lists.{pick, or, zeros}
 use Rattle.pages.specs.Words.{small}
-use Rattle.pages.proofs.WordLaws.{small_first, small_from, small_getD}
+use Rattle.pages.proofs.WordLaws.{small_first, small_from, small_get_or}
 use Rattle.store.specs.Bitmap.{bit, with_bit, with_run, highest, lowest, BitsSet, RunSet, HighestIs, LowestIs, Finds, AllClear}
 
 pub bit_past : (ws : List ℕ) (u : ℕ) → length ws ≤ u / 64 → bit ws u ≡ false
 bit_past ws u h = ap (λ w. eqb (w / 2 ^ (u % 64) % 2) 1) (get_or_past ws (u / 64) 0 h) ∙ ap (λ w. eqb (w % 2) 1) (zero-div (2 ^ (u % 64)))
 
-pub getD_zeros : (n i : ℕ) → get_or (zeros n) i 0 ≡ 0
+pub get_or_zeros : (n i : ℕ) → get_or (zeros n) i 0 ≡ 0
 unfolding zeros
-getD_zeros zero i = refl
-getD_zeros (suc n) zero = refl
-getD_zeros (suc n) (suc i) = getD_zeros n i
+get_or_zeros zero i = refl
+get_or_zeros (suc n) zero = refl
+get_or_zeros (suc n) (suc i) = get_or_zeros n i
 
 -- a power's bits
 pow_bit_same : (k : ℕ) → 2 ^ k / 2 ^ k % 2 ≡ 1
@@ -99,7 +99,7 @@ small_set (x ∷ ws) (suc i) w h l = small_from x (set ws i w) (small_first x ws
 pub small_with_bit : (ws : List ℕ) (u : ℕ) → small ws ≡ true → small (with_bit ws u) ≡ true
 small_with_bit ws u h =
     small_set ws (u / 64) (bit_or (get_or ws (u / 64) 0) (2 ^ (u % 64))) h
-    (or_lt 64 (get_or ws (u / 64) 0) (2 ^ (u % 64)) (small_getD ws (u / 64) h) (pow_below (u % 64) 64 (omega arith)))
+    (or_lt 64 (get_or ws (u / 64) 0) (2 ^ (u % 64)) (small_get_or ws (u / 64) h) (pow_below (u % 64) 64 (omega arith)))
 
 pub small_with_run : (n from : ℕ) (ws : List ℕ) → small ws ≡ true → small (with_run n from ws) ≡ true
 unfolding with_run
@@ -219,11 +219,5 @@ unfolding zeros
 zeros_are zero = refl
 zeros_are (suc n) = ap (λ ws. 0 ∷ ws) (zeros_are n)
 
-zero_at : (n i : ℕ) → get_or (zeros n) i 0 ≡ 0
-unfolding zeros
-zero_at zero i = refl
-zero_at (suc n) zero = refl
-zero_at (suc n) (suc i) = zero_at n i
-
 pub all_clear : AllClear
-all_clear n u = zero_word (zeros n) (u / 64) u (zero_at n (u / 64)) refl
+all_clear n u = zero_word (zeros n) (u / 64) u (get_or_zeros n (u / 64)) refl

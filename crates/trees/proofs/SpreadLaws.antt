@@ -12,22 +12,22 @@ use Rattle.trees.proofs.RowLaws.{cut_take, flat_cut, rewritten_is}
 use Rattle.trees.proofs.StoredLaws.{cut_push}
 
 -- zeros behind are as nothing
-getD_zeros : (n i : ℕ) → get_or (zeros n) i 0 ≡ 0
+get_or_zeros : (n i : ℕ) → get_or (zeros n) i 0 ≡ 0
 unfolding zeros
-getD_zeros zero i = refl
-getD_zeros (suc n) zero = refl
-getD_zeros (suc n) (suc i) = getD_zeros n i
+get_or_zeros zero i = refl
+get_or_zeros (suc n) zero = refl
+get_or_zeros (suc n) (suc i) = get_or_zeros n i
 
-getD_zeros_behind : (xs : List ℕ) (n i : ℕ) → get_or (xs ++ zeros n) i 0 ≡ get_or xs i 0
-getD_zeros_behind [] n i = getD_zeros n i
-getD_zeros_behind (x ∷ xs) n zero = refl
-getD_zeros_behind (x ∷ xs) n (suc i) = getD_zeros_behind xs n i
+get_or_zeros_behind : (xs : List ℕ) (n i : ℕ) → get_or (xs ++ zeros n) i 0 ≡ get_or xs i 0
+get_or_zeros_behind [] n i = get_or_zeros n i
+get_or_zeros_behind (x ∷ xs) n zero = refl
+get_or_zeros_behind (x ∷ xs) n (suc i) = get_or_zeros_behind xs n i
 
 pub path_word_in : (xs : List ℕ) (at k i : ℕ) → i < k → get_or xs (at + i) 0 ≡ get_or (take k (drop at xs) ++ zeros 8) i 0
-path_word_in xs at k i h = sym (getD_zeros_behind (take k (drop at xs)) 8 i ∙ get_or-take k (drop at xs) i 0 h ∙ get_or-drop at xs i 0)
+path_word_in xs at k i h = sym (get_or_zeros_behind (take k (drop at xs)) 8 i ∙ get_or-take k (drop at xs) i 0 h ∙ get_or-drop at xs i 0)
 
 pub path_word_past : (xs : List ℕ) (at k i : ℕ) → k ≤ i → 0 ≡ get_or (take k (drop at xs) ++ zeros 8) i 0
-path_word_past xs at k i h = sym (getD_zeros_behind (take k (drop at xs)) 8 i ∙ get_or_past (take k (drop at xs)) i 0 (omega (arith, length-take k (drop at xs))))
+path_word_past xs at k i h = sym (get_or_zeros_behind (take k (drop at xs)) 8 i ∙ get_or_past (take k (drop at xs)) i 0 (omega (arith, length-take k (drop at xs))))
 
 -- ten words made one by one
 pub ten_made : (ws ys : List ℕ) (i s r : ℕ) → i ≡ 8 → length ws ≡ 10 → take i ws ≡ take i ys → set (set ws 8 s) 9 r ≡ (take 8 ys ++ s ∷ []) ++ r ∷ []
