@@ -99,17 +99,18 @@ fn run(rt: &HostRuntime, path: &str, pages: Option<String>) -> Result<(), Troubl
     serve(rt, &mut driver)
 }
 
-// Prints what stopped the program, and hands it on.
-fn report(rt: &HostRuntime, path: &str, res: Result<(), Trouble>) -> Result<(), Trouble> {
+// Prints what stopped the program and where, and hands it on.
+fn report<T: Drop>(rt: &HostRuntime, place: &str, res: Result<T, Trouble>) -> Result<T, Trouble> {
     if let Err(trouble) = &res {
-        let _ = eprintln!(rt; "boat: {path}: {trouble}");
+        let _ = eprintln!(rt; "boat: {place}: {trouble}");
     }
     res
 }
 
 // Takes the arguments, and serves the house that they name.
 fn start(rt: &HostRuntime) -> Result<(), Trouble> {
-    let mut words = system("read the arguments", env::args(rt))?.skip(1);
+    let words = system("read the arguments", env::args(rt));
+    let mut words = report(rt, "the command line", words)?.skip(1);
     match (words.next(), words.next(), words.next()) {
         (Some(path), pages, None) => {
             let path = path.as_str();
