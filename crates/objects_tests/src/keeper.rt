@@ -324,16 +324,12 @@ impl Client for Keeper {
 }
 
 // What was saved is loaded again.
-pub fn loads_saved() -> u8
+pub fn loads_saved()
     ensures { LoadsSaved }
-{
-    0
-}
+{}
 
 // What is shown of any client that sweeps or marks holds of this one.
-pub fn sweeps_and_marks() -> u8
+pub fn sweeps_and_marks()
     ensures sweeps { KeeperSweeps }
     ensures walks { KeeperWalks }
-{
-    0
-}
+{}
