@@ -1,5 +1,5 @@
 // A client that lays or looks at 64 KiB again and again, to measure.
-ghost use Rattle.pages_bench.specs.Mover.{mover_wakes, mover_hears, mover_resumes, mover_loads, mover_saves};
+ghost use Rattle.pages_bench.specs.Mover.{mover_client};
 
 use pages::machine::{Client, Request};
 
@@ -11,15 +11,7 @@ pub struct Mover {
 }
 
 impl Client for Mover {
-    ghost wakes = { mover_wakes };
-
-    ghost hears = { mover_hears };
-
-    ghost resumes = { mover_resumes };
-
-    ghost loads = { mover_loads };
-
-    ghost saves = { mover_saves };
+    ghost housed = { mover_client };
 
     fn load(cells: &[u64; 120]) -> Mover {
         Mover {
@@ -47,7 +39,7 @@ impl Client for Mover {
 
     fn resume(&mut self, memory: &mut [u64]) -> Request {
         if self.left == 0 {
-            return Request::Finish { reply: 0 };
+            return Request::Done;
         }
         self.left -= 1;
         if self.looks == 0 {

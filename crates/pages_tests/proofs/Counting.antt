@@ -9,7 +9,7 @@ use Rattle.pages.specs.Crash.{Rows}
 use Rattle.pages.specs.Engine.{bulk_cells}
 use Rattle.pages.specs.Machine.{Asked, asked}
 use Rattle.pages.specs.Tape.{first_page, last_page, published, Window, Does, recalls, looks, lays, publishes, rows, finishes}
-use Rattle.pages.specs.declared.machine.Request.TheVariants.{Look, Lay, Publish, Show, Finish}
+use Rattle.pages.specs.declared.machine.Request.TheVariants.{Look, Lay, Publish, Show, Done}
 use Rattle.pages.proofs.ListLaws.{pick_true, pick_false}
 use Rattle.pages.proofs.BytesLaws.{length_eight}
 use Rattle.pages.proofs.WordLaws.{length_over}
@@ -55,7 +55,7 @@ module _ (n c : ℕ) (two : 2 ≤ n) (below : c + 1 < 18446744073709551615) wher
       phase m _ _ h t laid [] l
       (rows (asked (counter 5 last (c + 1)) m₁ (Show 8)) h t laid [] 8 refl (omega arith) (inr st)
       (phase m₁ _ _ h t laid _ (length-set m 0 (c + 1) ∙ l)
-      (finishes (asked (counter 5 last (c + 1)) m₁ (Finish 0)) h t laid _ 0 refl (omega arith)
+      (finishes (asked (counter 5 last (c + 1)) m₁ Done) h t laid _ 0 refl (omega arith)
       (refl, ap (λ (x : List ℕ). x ∷ []) (row_is m (c + 1) (omega arith)), st))))
     where
       m₁ : List ℕ

@@ -2,10 +2,10 @@
 use Rattle.std.specs.Prelude.{◌≡◌, ℕ, suc, ◌+◌, ◌-◌, ◌*◌, ◌<◌, ◌≤◌, ◌⊎◌, List, [], ◌∷◌, length, ◌==◌, nat_lt, slice_index, slice_set}
 use Rattle.pages.specs.Lists.{pick, zeros}
 use Rattle.pages.specs.Bytes.{eight}
-use Rattle.pages.specs.Engine.{bulk_cells}
+use Rattle.pages.specs.Engine.{Housed, housed, bulk_cells}
 use Rattle.pages.specs.Machine.{Asked, Program, program, asked, capped}
 use Rattle.pages.specs.Tape.{first_page, last_page, published, Window, Does}
-use Rattle.pages.specs.declared.machine.Request.TheVariants.{Recall, Look, Lay, Publish, Show, Finish}
+use Rattle.pages.specs.declared.machine.Request.TheVariants.{Recall, Look, Lay, Publish, Show, Done}
 use Rattle.pages_tests.specs.declared.counter.Counter.{Counter}
 
 abbrev pub counter : ℕ → ℕ → ℕ → Counter
@@ -30,11 +30,11 @@ laid last count m = asked (counter 4 last count) (slice_set (slice_set m 0 last)
 
 abbrev pub counter_resumes : Counter → List ℕ → Asked Counter
 counter_resumes k m =
-    pick (nat_lt (length m) 2) (asked k m (Finish 0)) (
+    pick (nat_lt (length m) 2) (asked k m Done) (
     pick (k.phase == 1) (recalled m)
     (pick (k.phase == 2) (counted k.last m)
     (pick (k.phase == 3) (laid k.last k.count m)
-    (pick (k.phase == 4) (asked (counter 5 k.last k.count) (slice_set m 0 k.count) (Show 8)) (asked k m (Finish 0))))))
+    (pick (k.phase == 4) (asked (counter 5 k.last k.count) (slice_set m 0 k.count) (Show 8)) (asked k m Done)))))
 
 abbrev pub counter_loads : List ℕ → Counter
 counter_loads cs = counter (slice_index cs 0) (slice_index cs 1) (slice_index cs 2)
@@ -50,6 +50,9 @@ Counted h t c =
 
 abbrev pub counting : Program Counter
 counting = program counter_wakes counter_hears counter_resumes
+
+abbrev pub counter_client : Housed Counter
+counter_client = housed counting counter_loads counter_saves
 
 -- On a ring of two pages or more, whatever stops: the number is as it was or one higher, and at the end it is one higher and shown.
 abbrev pub CountsUp : Type 0

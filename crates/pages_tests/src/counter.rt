@@ -1,5 +1,5 @@
 // A client that counts: it reads a number from the tape, lays it one higher, publishes, and shows it.
-ghost use Rattle.pages_tests.specs.Counter.{counter_wakes, counter_hears, counter_resumes, counter_loads, counter_saves, CountsUp};
+ghost use Rattle.pages_tests.specs.Counter.{counter_client, CountsUp};
 
 use pages::machine::{Client, Request};
 
@@ -12,15 +12,7 @@ pub struct Counter {
 }
 
 impl Client for Counter {
-    ghost wakes = { counter_wakes };
-
-    ghost hears = { counter_hears };
-
-    ghost resumes = { counter_resumes };
-
-    ghost loads = { counter_loads };
-
-    ghost saves = { counter_saves };
+    ghost housed = { counter_client };
 
     fn load(cells: &[u64; 120]) -> Counter {
         Counter {
@@ -57,7 +49,7 @@ impl Client for Counter {
 
     fn resume(&mut self, memory: &mut [u64]) -> Request {
         if memory.len() < 2 {
-            return Request::Finish { reply: 0 };
+            return Request::Done;
         }
         match self.phase {
             1 => {
@@ -107,7 +99,7 @@ impl Client for Counter {
                 memory[0] = self.count;
                 Request::Show { bytes: 8 }
             }
-            _ => Request::Finish { reply: 0 },
+            _ => Request::Done,
         }
     }
 }
