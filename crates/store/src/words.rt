@@ -1,7 +1,7 @@
 // The words of the sum: SHA-256's functions, schedule and rounds, as the standard has them.
 ghost use Rattle.std.specs.Prelude.{◌≡◌, ◌+◌, ◌/◌, ◌<◌, ◌≤◌, length, take, slice_index};
 ghost use Rattle.store.specs.Mixing.{GoesOn};
-ghost use Rattle.store.specs.Sha256.{Ch, Maj, Σ₀, Σ₁, σ₀, σ₁, K, round, word, extension, schedule, compressed, hashed};
+ghost use Rattle.store.specs.Sha256.{Ch, Maj, Σ₀, Σ₁, σ₀, σ₁, K, plus, round, word, words_of, extension, schedule, compressed, hashed};
 
 // The eight words of a hash value, and the eight working variables.
 #[derive(Clone, Copy)]
@@ -14,6 +14,32 @@ pub struct Words {
     pub f: u32,
     pub g: u32,
     pub h: u32,
+}
+
+impl Words {
+    pub(crate) fn words(self) -> [u32; 8]
+        ensures { result ≡ words_of self }
+    {
+        [
+            self.a, self.b, self.c, self.d, self.e, self.f, self.g, self.h,
+        ]
+    }
+
+    // The sums of the words, each modulo 2 to the 32.
+    fn plus(self, other: Words) -> Words
+        ensures { result ≡ plus self other }
+    {
+        Words {
+            a: self.a.wrapping_add(other.a),
+            b: self.b.wrapping_add(other.b),
+            c: self.c.wrapping_add(other.c),
+            d: self.d.wrapping_add(other.d),
+            e: self.e.wrapping_add(other.e),
+            f: self.f.wrapping_add(other.f),
+            g: self.g.wrapping_add(other.g),
+            h: self.h.wrapping_add(other.h),
+        }
+    }
 }
 
 const CONSTANTS: [u32; 64] = [
@@ -211,16 +237,7 @@ pub(crate) fn compress(s: Words, block: &[u8]) -> Words
     for t in 48..64 {
         v = round(v, constant(t), w[t]);
     }
-    Words {
-        a: s.a.wrapping_add(v.a),
-        b: s.b.wrapping_add(v.b),
-        c: s.c.wrapping_add(v.c),
-        d: s.d.wrapping_add(v.d),
-        e: s.e.wrapping_add(v.e),
-        f: s.f.wrapping_add(v.f),
-        g: s.g.wrapping_add(v.g),
-        h: s.h.wrapping_add(v.h),
-    }
+    s.plus(v)
 }
 
 // The hash value after all the whole blocks of the bytes.

@@ -1,4 +1,4 @@
-use Rattle.std.proofs.Common.{arith}
+use Rattle.std.proofs.Common.{◌∙◌, arith}
 use Rattle.store.proofs.Scheduling.{mixed_none, mixed_at, last_none, rounds_more, last_all}
 use Rattle.store.proofs.words.compress.Goals as goal
 
@@ -15,4 +15,4 @@ loop-t-preserved c = λ e. rounds_more _ _ _ _ _ _ (c.loop-t.invariant e) c.cons
 pub returns : goal.returns
 returns c =
     let mixed = mixed_at _ 48 (omega arith) (c.loop-b.invariant.1 _ (mixed_none _ _ _ (omega arith) c.load-w.ensures)) in
-    last_all _ _ _ _ mixed _ _ (omega arith) (c.loop-t.invariant (last_none _ _ _ _ mixed))
+    c.plus.ensures ∙ last_all _ _ _ _ mixed _ _ (omega arith) (c.loop-t.invariant (last_none _ _ _ _ mixed))
