@@ -176,8 +176,8 @@ fn round(s: Words, k: u32, w: u32) -> Words
 }
 
 // Word t of a block, the highest byte first.
-fn word(block: &[u8], t: usize) -> u32
-    requires { (length block.now ≡ 64) × (t < 16) }
+fn word(block: &[u8; 64], t: usize) -> u32
+    requires { t < 16 }
     ensures { result ≡ word block.now t }
 {
     u32::from_be_bytes([
@@ -189,8 +189,7 @@ fn word(block: &[u8], t: usize) -> u32
 }
 
 // The first sixteen words of a block's message schedule; the others are not made yet.
-fn load(block: &[u8]) -> [u32; 64]
-    requires { length block.now ≡ 64 }
+fn load(block: &[u8; 64]) -> [u32; 64]
     ensures { take 16 result ≡ schedule 16 block.now }
 {
     let mut w = [0u32; 64];
@@ -225,8 +224,7 @@ fn eight_rounds(s: Words, w: &mut [u32; 64], t: usize) -> Words
 }
 
 // The next hash value, from the one before and a block.
-pub(crate) fn compress(s: Words, block: &[u8]) -> Words
-    requires { length block.now ≡ 64 }
+pub(crate) fn compress(s: Words, block: &[u8; 64]) -> Words
     ensures { result ≡ compressed s block.now }
 {
     let mut w = load(block);
@@ -244,10 +242,6 @@ pub(crate) fn compress(s: Words, block: &[u8]) -> Words
 pub(crate) fn compress_all(s: Words, bytes: &[u8]) -> Words
     ensures { result ≡ hashed (length bytes.now / 64) s bytes.now }
 {
-    let mut v = s;
-    let n = bytes.len() / 64;
-    for i in 0..n {
-        v = compress(v, &bytes[64 * i..64 * i + 64]);
-    }
-    v
+    let (blocks, _) = bytes.as_chunks();
+    blocks.iter().fold(s, |v, block| compress(v, block))
 }

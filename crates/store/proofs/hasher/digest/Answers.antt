@@ -1,4 +1,4 @@
-use Rattle.std.proofs.Common.{refl, ap, ◌∙◌, arith}
+use Rattle.std.proofs.Common.{◌∙◌, arith}
 use Rattle.store.proofs.Digests.{four_is, digest_more, digest_all}
 use Rattle.store.proofs.hasher.digest.Goals as goal
 
