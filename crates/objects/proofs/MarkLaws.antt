@@ -1,5 +1,5 @@
 -- Marking meets each live object once, and all of them. Assumes nothing.
-use Rattle.std.proofs.Common.{◌≡◌, ℕ, zero, suc, ◌+◌, ◌-◌, ◌*◌, ◌/◌, ◌<◌, ◌≤◌, min, Bool, true, false, ◌&&◌, eqb, ltb, leb, ◌⊎◌, List, [], ◌∷◌, ◌++◌, length, get_or, take, drop, Some, None, Option, sym, refl, ap, ◌∙◌, subst, ap₂, inl, inr, arith, length-drop}
+use Rattle.std.proofs.Common.{◌≡◌, ℕ, zero, suc, ◌+◌, ◌-◌, ◌*◌, ◌<◌, ◌≤◌, min, Bool, true, false, ◌&&◌, eqb, ltb, leb, ◌⊎◌, List, [], ◌∷◌, ◌++◌, length, get_or, take, drop, Some, None, Option, sym, refl, ap, ◌∙◌, subst, ap₂, inl, inr, arith, length-drop}
 use Rattle.std.proofs.lemmas.List.{get_or_append_left, get_or-take, get_or-drop, length-take-le, take_all, take_more}
 use Rattle.std.proofs.lemmas.Bool.{cases_lt, cases_order, both_ways, eq-eqb, lt-ltb, le-ltb, le-leb, ltb-true, leb-true, eqb-true, and_parts, and_from}
 use Rattle.pages.specs.Lists.{pick, every, has, same, zeros, added_up}
@@ -18,7 +18,7 @@ use Rattle.objects.specs.Heap.{Live, root, named, Placed, Heap, rising, units, h
 use Rattle.objects.specs.Marking.{glance, walk, stride, with_reference, with_references, run_from, begun, unmarked, rooted, references_met, key_met, key_words, found_now, map_met, met_walk, met_memory, sought_at, sought, went_on, walked, Walks, Keeps, Marked, Marks}
 use Rattle.objects.specs.declared.mark.Key.{Key}
 use Rattle.objects.specs.declared.mark.Walk.{Walk}
-use Rattle.store.proofs.BitLaws.{get_or_zeros, bits_set, set_here, run_set, small_with_bit, small_with_run, zero_word, finds}
+use Rattle.store.proofs.BitLaws.{all_clear, bits_set, set_here, run_set, small_with_bit, small_with_run, finds}
 use Rattle.objects.proofs.PlanLaws.{
   part_of_front,
   part_of_append,
@@ -35,9 +35,6 @@ use Rattle.objects.proofs.PlanLaws.{
 }
 
 -- THE MAP'S BITS
-no_bits : (n v : ℕ) → bit (zeros n) v ≡ false
-no_bits n v = zero_word (zeros n) (v / 64) v (get_or_zeros n (v / 64)) refl
-
 -- a bit that is set stays, whatever bit is set
 bit_stays : (ws : List ℕ) (u v : ℕ) → bit ws v ≡ true → bit (with_bit ws u) v ≡ true
 bit_stays ws u v h = (bits_set ws u v).0 ∙ or_right (eqb u v && ltb u (64 * length ws)) (bit ws v) h
@@ -475,7 +472,7 @@ at_start t roots m lo below kind key heap cap long =
       where
         go : (has roots (lo + u + 1) ≡ true) ⊎ (bit (zeros map_words) u ≡ true) → Live t roots (lo + u + 1)
         go (inl e) = root (lo + u + 1) (omega arith) e
-        go (inr e) = absurd (both_ways (bit (zeros map_words) u) (no_bits map_words u) e)
+        go (inr e) = absurd (both_ways (bit (zeros map_words) u) (all_clear map_words u) e)
 
     inside : (r : ℕ) → Live t roots r → (lo < r) × (r ≤ lo + below)
     inside r x = let q : Placed t lo (lo + below) r = heap.placed r x in (q.above, omega (arith, q.within, q.whole))

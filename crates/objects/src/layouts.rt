@@ -6,6 +6,7 @@ ghost use Rattle.objects.specs.Layouts.{answered, bytes_put, bytes_stand, commit
 ghost use Rattle.objects.specs.Marking.{key_words};
 
 use crate::mark::Key;
+use crate::pack::copy_words;
 use crate::plan;
 use pages::bytes::number;
 use pages::object::{heading, kind_in};
@@ -49,22 +50,12 @@ fn stands(memory: &[u64], most: u64, bytes: u64, from: usize) -> bool
         && from <= memory.len() - words_for(bytes)
 }
 
-// Copies words down.
-fn copy_down(memory: &mut [u64], from: usize, to: usize, many: usize)
-    requires { (to ≤ from) × (from + many ≤ length memory.old) }
-    ensures { memory.new ≡ over to (take many (drop from memory.old)) memory.old }
-{
-    for i in 0..many {
-        memory[to + i] = memory[from + i];
-    }
-}
-
 // Puts an object in front of the buffer: its first words, and then words that stand behind the buffer.
 fn put_object(memory: &mut [u64], front: &[u64], from: usize, many: usize)
     requires { (length front.now ≤ from) × (from + many ≤ length memory.old) }
     ensures { memory.new ≡ over 0 (front.now ++ take many (drop from memory.old)) memory.old }
 {
-    copy_down(memory, from, front.len(), many);
+    copy_words(memory, from, front.len(), many);
     memory[0..front.len()].copy_from_slice(front);
 }
 
@@ -236,15 +227,11 @@ pub fn put_bytes(memory: &mut [u64], at: usize, bytes: &[u8])
 }
 
 // What was composed is read back as it was.
-pub fn reads_back() -> u8
+pub fn reads_back()
     ensures { ReadBack }
-{
-    0
-}
+{}
 
 // Bytes come back out of the words that they were packed into.
-pub fn bytes_come_back() -> u8
+pub fn bytes_come_back()
     ensures { BytesBack }
-{
-    0
-}
+{}
