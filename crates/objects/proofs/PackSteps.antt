@@ -128,10 +128,10 @@ renamed_more first from at i m x h lo hi e =
         ∙ ap (λ v. take (i - at) (drop at m) ++ v ∷ []) (get_or-drop at m (i - at) 0 ∙ ap (λ k. get_or m k 0) here)
 
 -- THE NEW HEAD
-pub two_set : (h : List ℕ) (a b : ℕ) → 2 ≤ length h → set (set h 0 a) 1 b ≡ a ∷ b ∷ drop 2 h
-two_set [] a b l = absurd (omega arith)
-two_set (x ∷ []) a b l = absurd (omega arith)
-two_set (x ∷ y ∷ h) a b l = refl
+pub two_set : (h m : List ℕ) (a b : ℕ) → 2 ≤ length h → set (set (over 0 h m) 0 a) 1 b ≡ over 0 (a ∷ b ∷ drop 2 h) m
+two_set [] m a b l = absurd (omega arith)
+two_set (x ∷ []) m a b l = absurd (omega arith)
+two_set (x ∷ y ∷ h) m a b l = refl
 
 pub new_head_is : (first from page : ℕ) (m h x y : List ℕ) → h ≡ take 32 (drop head_at m) → x ≡ over 0 (from ∷ page ∷ drop 2 h) m → y ≡ renaming first from 2 8 x →
     y ≡ new_head first from page m

@@ -1,7 +1,7 @@
 use Rattle.std.proofs.Common.{sym, ap, ◌∙◌}
 use Rattle.objects.specs.Marking.{stride}
 use Rattle.objects.specs.Sweeping.{copying, marking}
-use Rattle.objects.proofs.sweep.met.Goals as goal
+use Rattle.objects.proofs.sweep.Sweep.met.Goals as goal
 
 pub returns-in_default : goal.returns-in_default
 returns-in_default c =
