@@ -2,7 +2,7 @@
 ghost use Rattle.std.specs.Prelude.{◌≡◌, ◌+◌, ◌*◌, ◌<◌, ◌≤◌, ◌++◌, length, take, drop};
 ghost use Rattle.pages.specs.Lists.{zeros};
 ghost use Rattle.pages.specs.Words.{over};
-ghost use Rattle.objects.specs.Layouts.{answered, bytes_put, bytes_stand, commit_fits, commit_front, commit_of, commit_read, eight_of, file_object, file_read, in_front, key_at, name_fits, name_of, name_read, of_kind, BytesBack, ReadBack, words_at, words_for};
+ghost use Rattle.objects.specs.Layouts.{answered, bytes_put, bytes_stand, commit_fits, commit_front, commit_of, commit_read, eight_of, file_object, file_read, in_front, key_at, kind_number, name_fits, name_of, name_read, of_kind, BytesBack, ReadBack, words_at, words_for};
 ghost use Rattle.objects.specs.Marking.{key_words};
 
 use crate::mark::Key;
@@ -10,6 +10,14 @@ use crate::pack::copy_words;
 use crate::plan;
 use pages::bytes::number;
 use pages::object::{heading, kind_in};
+
+// The kinds of objects, by the numbers that the format gives them; a tree is laid with the tree rows.
+#[derive(Clone, Copy)]
+enum Kind {
+    File = 1,
+    Commit = 3,
+    Name = 4,
+}
 
 // A commit: references to its tree and its parents, of which none to two are there, and what it says; of its words so many bytes.
 #[derive(Clone, Copy)]
@@ -36,7 +44,7 @@ fn words_for(bytes: u64) -> usize
     requires { bytes ≤ 65535 }
     ensures { result ≡ words_for bytes }
 {
-    ((bytes + 7) / 8) as usize
+    bytes.div_ceil(8) as usize
 }
 
 // Whether so many bytes, and not too many, stand in memory behind the buffer.
@@ -46,7 +54,7 @@ fn stands(memory: &[u64], most: u64, bytes: u64, from: usize) -> bool
 {
     memory.len() >= plan::END
         && bytes <= most
-        && from >= 41_088
+        && from >= plan::REST
         && from <= memory.len() - words_for(bytes)
 }
 
@@ -69,7 +77,7 @@ pub fn compose_file(memory: &mut [u64], sum: Key, bytes: u64, from: usize) -> Op
     }
     let words = words_for(bytes);
     let front = [
-        heading(1, 0, 6 + words as u32),
+        heading(Kind::File as u16, 0, 6 + words as u32),
         64 + bytes,
         sum.a,
         sum.b,
@@ -86,7 +94,7 @@ fn commit_front(commit: &Commit, words: u32) -> [u64; 11]
     ensures { result ≡ commit_front words commit.now }
 {
     [
-        heading(3, 3, 11 + words),
+        heading(Kind::Commit as u16, 3, 11 + words),
         256 + commit.bytes + commit.tree_weight,
         commit.tree,
         commit.one,
@@ -126,7 +134,7 @@ pub fn compose_name(memory: &mut [u64], name: Name, from: usize) -> Option<u64>
     }
     let words = words_for(name.bytes);
     let front = [
-        heading(4, 2, 6 + words as u32),
+        heading(Kind::Name as u16, 2, 6 + words as u32),
         128,
         name.next,
         name.commit,
@@ -138,17 +146,17 @@ pub fn compose_name(memory: &mut [u64], name: Name, from: usize) -> Option<u64>
 }
 
 // Whether the object in the buffer is of a kind.
-fn is_kind(memory: &[u64], kind: u64) -> bool
-    ensures { result ≡ of_kind kind memory.now }
+fn is_kind(memory: &[u64], kind: Kind) -> bool
+    ensures { result ≡ of_kind (kind_number kind) memory.now }
 {
-    memory.len() >= plan::END && kind_in(memory[0]) == kind
+    memory.len() >= plan::END && kind_in(memory[0]) == kind as u64
 }
 
 // How many bytes the file in the buffer has.
 pub fn read_file(memory: &[u64]) -> Option<u64>
     ensures { result ≡ file_read memory.now }
 {
-    if !is_kind(memory, 1) {
+    if !is_kind(memory, Kind::File) {
         return None;
     }
     Some(memory[1].saturating_sub(64))
@@ -171,7 +179,7 @@ fn key_in(memory: &[u64], at: usize) -> Key
 pub fn read_commit(memory: &[u64]) -> Option<Commit>
     ensures { result ≡ commit_read memory.now }
 {
-    if !is_kind(memory, 3) {
+    if !is_kind(memory, Kind::Commit) {
         return None;
     }
     let tree_weight = memory[10];
@@ -190,7 +198,7 @@ pub fn read_commit(memory: &[u64]) -> Option<Commit>
 pub fn read_name(memory: &[u64]) -> Option<Name>
     ensures { result ≡ name_read memory.now }
 {
-    if !is_kind(memory, 4) {
+    if !is_kind(memory, Kind::Name) {
         return None;
     }
     Some(Name {
