@@ -8,6 +8,7 @@ use crate::words::{Words, compress, compress_all};
 
 // A sum that is still open: the hash value so far, the bytes of a block that is not yet whole, and the number of bytes,
 // which wraps at 2 to the 64, as the length in the padding does at 2 to the 61.
+// As it stands: a house keeps no heap, so a block that fills up is an array; its length is that of all bytes, modulo 64.
 #[derive(Clone, Copy)]
 pub struct Hasher {
     state: Words,

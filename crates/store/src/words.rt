@@ -1,5 +1,6 @@
 // The words of the sum: SHA-256's functions, schedule and rounds, as the standard has them.
-ghost use Rattle.std.specs.Prelude.{◌≡◌, ◌+◌, ◌/◌, ◌<◌, ◌≤◌, length, take, slice_index};
+ghost use Rattle.std.specs.Prelude.{◌≡◌, ◌+◌, ◌/◌, ◌<◌, ◌≤◌, length, take, drop, fold, slice_index};
+ghost use Rattle.std.specs.List.{zip};
 ghost use Rattle.store.specs.Mixing.{GoesOn};
 ghost use Rattle.store.specs.Sha256.{Ch, Maj, Σ₀, Σ₁, σ₀, σ₁, K, plus, round, word, words_of, extension, schedule, compressed, hashed};
 
@@ -193,8 +194,9 @@ fn load(block: &[u8; 64]) -> [u32; 64]
     ensures { take 16 result ≡ schedule 16 block.now }
 {
     let mut w = [0u32; 64];
-    for i in 0..16 {
-        w[i] = word(block, i);
+    // As it stands: `word` is the standard's word t of a block, and over chunks of four bytes the line would be longer.
+    for t in 0..16 {
+        w[t] = word(block, t);
     }
     w
 }
@@ -216,11 +218,22 @@ fn eight_rounds(s: Words, w: &mut [u32; 64], t: usize) -> Words
     ensures { GoesOn 8 t s w.old result w.new }
 {
     let mut v = s;
+    // As it stands: the schedule is read at one place and written at another, which an iterator over it forbids.
     for i in 0..8 {
         w[t + i + 16] = extension(w, t + i + 16);
         v = round(v, constant(t + i), w[t + i]);
     }
     v
+}
+
+// The last sixteen rounds, with the whole schedule.
+fn last_rounds(v: Words, w: &[u32; 64]) -> Words
+    ensures { result ≡ fold (λ v p. round p.0 p.1 v) v (zip (drop 48 K) (drop 48 w.now)) }
+{
+    CONSTANTS[48..]
+        .iter()
+        .zip(&w[48..])
+        .fold(v, |v, (k, w)| round(v, *k, *w))
 }
 
 // The next hash value, from the one before and a block.
@@ -229,13 +242,11 @@ pub(crate) fn compress(s: Words, block: &[u8; 64]) -> Words
 {
     let mut w = load(block);
     let mut v = s;
+    // As it stands: what goes on is a number of rounds, not a row.
     for b in 0..6 {
         v = eight_rounds(v, &mut w, 8 * b);
     }
-    for t in 48..64 {
-        v = round(v, constant(t), w[t]);
-    }
-    s.plus(v)
+    s.plus(last_rounds(v, &w))
 }
 
 // The hash value after all the whole blocks of the bytes.
