@@ -1,6 +1,5 @@
 // A store of 4,000 files and 300 commits, each with a tree of its own in which one file differs: what a survey and a sweep take.
-use crate::desk::Command;
-use crate::device::Uses;
+use crate::rig::{Command, Uses};
 use crate::trial::{Counts, Trial};
 use std::alloc::{AllocError, Global};
 use std::time::Instant;
@@ -71,7 +70,7 @@ fn build(trial: &mut Trial, scale: Scale) -> Result<u64, AllocError> {
 
 // Runs a command; says how often it used the device, and how long it took.
 fn time(rt: &HostRuntime, trial: &mut Trial, what: &str, command: Command) -> anyhow::Result<()> {
-    trial.desk.device.count_anew();
+    trial.rig.uses = Uses::default();
     let start = Instant::now(rt)?;
     trial.run(command)?;
     let time = start.elapsed(rt)?.as_micros();
@@ -79,7 +78,7 @@ fn time(rt: &HostRuntime, trial: &mut Trial, what: &str, command: Command) -> an
         reads,
         writes,
         flushes,
-    } = trial.desk.device.uses();
+    } = trial.rig.uses;
     println!(rt; "a {what}: {reads} pages read, {writes} pages written, {flushes} flushes")?;
     eprintln!(rt; "a {what}: {time} microseconds")?;
     Ok(())
@@ -87,7 +86,7 @@ fn time(rt: &HostRuntime, trial: &mut Trial, what: &str, command: Command) -> an
 
 // Surveys and sweeps the store: how much of it was wrong.
 pub fn measure(rt: &HostRuntime, heap: Global, scale: Scale) -> anyhow::Result<u64> {
-    let mut trial = Trial::new(heap, scale.pages, 1, Counts::none())?;
+    let mut trial = Trial::new(heap, scale.pages, 1, Counts::default())?;
     let commit = build(&mut trial, scale)?;
     let survey = trial.survey_for(commit, 3);
     time(rt, &mut trial, "survey", survey)?;

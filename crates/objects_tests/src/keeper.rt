@@ -2,26 +2,41 @@
 ghost use Rattle.std.specs.Prelude.{◌≡◌, ℕ, ◌*◌, ◌≤◌, List, length, take, drop, slice_index};
 ghost use Rattle.pages.specs.Machine.{asked, capped};
 ghost use Rattle.pages.specs.Words.{over};
-ghost use Rattle.objects.specs.Marking.{asked_on as walked_on, begun, sought, walked, went_on};
+ghost use Rattle.objects.specs.Marking.{asked_on as went_on_by, begun, sought, walked, went_on};
 ghost use Rattle.objects.specs.Plan.{head_at, plan_end};
-ghost use Rattle.objects.specs.Sweeping.{asked_on as swung_on, sweep_begun, sweep_went_on, swung};
+ghost use Rattle.objects.specs.Sweeping.{sweep_begun, sweep_went_on, swung};
 ghost use Rattle.objects_tests.specs.Keeper.{keeper_client, KeeperSweeps, KeeperWalks, LoadsSaved, phase_code, phase_in, phase_said, request_said, said as said_at, stage_code, stage_in, surveyed, surveying, sweep_in, sweeping, swept, walk_in, walk_said, window_in};
 
 use objects::mark::{Key, Walk};
 use objects::sweep::{Stage, Sweep};
-use objects::{mark, plan, sweep};
+use objects::{mark, plan};
 use pages::bytes::number;
 use pages::machine::{Client, Request};
 
-#[derive(Clone, Copy)]
+#[derive(Clone, Copy, Debug, PartialEq, Eq)]
 pub enum Phase {
     // What was said is served; then the command ends.
-    Once,
+    Once = 0,
     // The head was asked for, to sweep or to survey.
-    ToSweep,
-    ToSurvey,
-    Sweeping,
-    Surveying,
+    ToSweep = 1,
+    ToSurvey = 2,
+    Sweeping = 3,
+    Surveying = 4,
+}
+
+// A phase as a cell has it.
+impl From<u64> for Phase {
+    ghost from_gives = { λ cell phase. phase ≡ phase_in cell };
+
+    fn from(cell: u64) -> Phase {
+        match cell {
+            1 => Phase::ToSweep,
+            2 => Phase::ToSurvey,
+            3 => Phase::Sweeping,
+            4 => Phase::Surveying,
+            _ => Phase::Once,
+        }
+    }
 }
 
 #[derive(Clone, Copy)]
@@ -34,39 +49,16 @@ pub struct Keeper {
 fn phase_code(phase: Phase) -> u64
     ensures { result ≡ phase_code phase }
 {
-    match phase {
-        Phase::Once => 0,
-        Phase::ToSweep => 1,
-        Phase::ToSurvey => 2,
-        Phase::Sweeping => 3,
-        Phase::Surveying => 4,
-    }
-}
-
-fn phase_in(code: u64) -> Phase
-    ensures { result ≡ phase_in code }
-{
-    match code {
-        1 => Phase::ToSweep,
-        2 => Phase::ToSurvey,
-        3 => Phase::Sweeping,
-        4 => Phase::Surveying,
-        _ => Phase::Once,
-    }
+    phase as u64
 }
 
 fn stage_code(stage: Stage) -> u64
     ensures { result ≡ stage_code stage }
 {
-    match stage {
-        Stage::Marking => 0,
-        Stage::Copying => 1,
-        Stage::Laying => 2,
-        Stage::Closing => 3,
-        Stage::Publishing => 4,
-    }
+    stage as u64
 }
 
+// As it stands: a function, since a crate can't write `From` for a type of another one.
 fn stage_in(code: u64) -> Stage
     ensures { result ≡ stage_in code }
 {
@@ -121,6 +113,7 @@ fn said(text: &[u8], at: usize) -> u64
 }
 
 // The request that a code and two numbers stand for.
+// As it stands: numbers, since they are what a text says; each stands for one request or phase, here and nowhere else.
 fn request_said(code: u64, a: u64, b: u64) -> Request
     ensures { result ≡ request_said code a b }
 {
@@ -166,21 +159,10 @@ fn walk_said(text: &[u8]) -> Walk
     }
 }
 
-// Marks the roots and nothing else.
-fn mark_roots(memory: &mut [u64], first: u64, roots: [u64; 8])
-    requires { plan_end ≤ length memory.old }
-    ensures { memory.new ≡ begun first roots memory.old }
-{
-    mark::unmark(memory);
-    for i in 0..8 {
-        mark::mark_root(memory, first, roots[i]);
-    }
-}
-
 impl Keeper {
     // The sweep asks for something; if not, it has ended, and the command with it.
     fn swept(&mut self, request: Option<Request>) -> Request
-        ensures { (m : List ℕ) → asked self.new m result ≡ swung_on (sweeping self.old.walk) (swept self.old.walk) self.old.sweep m request }
+        ensures { (m : List ℕ) → asked self.new m result ≡ went_on_by (sweeping self.old.walk) (swept self.old.walk) self.old.sweep m request }
     {
         let Some(request) = request else {
             self.phase = Phase::Once;
@@ -198,21 +180,21 @@ impl Keeper {
         let mut head = [0; 32];
         head.copy_from_slice(&memory[0..32]);
         memory[41_152..41_184].copy_from_slice(&head);
-        let request = sweep::begin(&mut self.sweep, memory);
+        let request = self.sweep.begin(memory);
         self.swept(request)
     }
 
     fn sweep_on(&mut self, memory: &mut [u64]) -> Request
         ensures { asked self.new memory.new result ≡ swung (sweeping self.old.walk) (swept self.old.walk) (sweep_went_on self.old.sweep memory.old) }
     {
-        let request = sweep::go_on(&mut self.sweep, memory);
+        let request = self.sweep.go_on(memory);
         self.swept(request)
     }
 
     // The walk asks for something; if not, all is met, and what it weighs and the name of what was found are shown.
     fn surveyed(&mut self, memory: &mut [u64], request: Option<Request>) -> Request
         requires { plan_end ≤ length memory.old }
-        ensures { asked self.new memory.new result ≡ walked_on (surveying self.old.sweep) (surveyed self.old.sweep) self.old.walk memory.old request }
+        ensures { asked self.new memory.new result ≡ went_on_by (surveying self.old.sweep) (surveyed self.old.sweep) self.old.walk memory.old request }
     {
         let Some(request) = request else {
             self.phase = Phase::Once;
@@ -225,6 +207,7 @@ impl Keeper {
     }
 
     // The head is in the buffer: a walk over its window begins.
+    #[tactic(auto, using(objects::proofs::MarkLaws::roots_long))]
     fn start_survey(&mut self, memory: &mut [u64]) -> Request
         requires { plan_end ≤ length memory.old }
         ensures { asked self.new memory.new result ≡ walked (surveying self.old.sweep) (surveyed self.old.sweep) (sought (window_in self.old.walk memory.old) (begun (capped (8 * slice_index memory.old 0)) (take 8 (drop 2 memory.old)) memory.old)) }
@@ -235,8 +218,8 @@ impl Keeper {
         self.walk.found = 0;
         let mut roots = [0; 8];
         roots.copy_from_slice(&memory[2..10]);
-        mark_roots(memory, self.walk.first, roots);
-        let request = mark::seek(&mut self.walk, memory);
+        mark::mark_roots(memory, self.walk.first, &roots);
+        let request = self.walk.seek(memory);
         self.surveyed(memory, request)
     }
 
@@ -244,7 +227,7 @@ impl Keeper {
         requires { plan_end ≤ length memory.old }
         ensures { asked self.new memory.new result ≡ walked (surveying self.old.sweep) (surveyed self.old.sweep) (went_on self.old.walk memory.old) }
     {
-        let request = mark::go_on(&mut self.walk, memory);
+        let request = self.walk.go_on(memory);
         self.surveyed(memory, request)
     }
 }
@@ -254,7 +237,7 @@ impl Client for Keeper {
 
     fn load(cells: &[u64; 120]) -> Keeper {
         Keeper {
-            phase: phase_in(cells[0]),
+            phase: Phase::from(cells[0]),
             sweep: sweep_in(&cells[10..24]),
             walk: walk_in(&cells[1..10]),
         }

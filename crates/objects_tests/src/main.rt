@@ -2,11 +2,10 @@
 #![tactic(auto)]
 
 mod bench;
-mod desk;
-mod device;
 mod keeper;
 mod model;
 mod random;
+mod rig;
 mod trial;
 
 use bench::Scale;
@@ -25,40 +24,36 @@ struct Plan {
     store: Scale,
 }
 
-fn whole() -> Plan {
-    Plan {
-        trials: 600,
-        rounds: 16,
-        extremes: 16,
-        watched: 60,
-        watched_rounds: 4,
-        store: Scale {
-            files: 4_000,
-            commits: 300,
-            pages: 131_072,
-        },
-    }
-}
+const WHOLE: Plan = Plan {
+    trials: 600,
+    rounds: 16,
+    extremes: 16,
+    watched: 60,
+    watched_rounds: 4,
+    store: Scale {
+        files: 4_000,
+        commits: 300,
+        pages: 131_072,
+    },
+};
 
 // A few of each, for a run that is slow: any argument asks for it.
-fn small() -> Plan {
-    Plan {
-        trials: 1,
-        rounds: 2,
-        extremes: 1,
-        watched: 0,
-        watched_rounds: 1,
-        store: Scale {
-            files: 4,
-            commits: 2,
-            pages: 64,
-        },
-    }
-}
+const SMALL: Plan = Plan {
+    trials: 1,
+    rounds: 2,
+    extremes: 1,
+    watched: 0,
+    watched_rounds: 1,
+    store: Scale {
+        files: 4,
+        commits: 2,
+        pages: 64,
+    },
+};
 
 // Random objects; it ends where something is wrong.
 fn roam(heap: Global, plan: Plan) -> Result<Counts, AllocError> {
-    let mut counts = Counts::none();
+    let mut counts = Counts::default();
     for i in 0..plan.trials {
         let pages = 64 + 29 * (i % 12);
         let mut trial = Trial::new(heap, pages, i.saturating_add(1), counts)?;
@@ -80,7 +75,7 @@ fn roam(heap: Global, plan: Plan) -> Result<Counts, AllocError> {
 
 // Short runs with a stop at every act.
 fn stumble(heap: Global, plan: Plan) -> Result<Counts, AllocError> {
-    let mut counts = Counts::none();
+    let mut counts = Counts::default();
     for i in 0..plan.watched {
         let mut trial = Trial::new(heap, 64, i.saturating_add(1_000), counts)?;
         trial.watch();
@@ -104,11 +99,8 @@ fn run(rt: &HostRuntime, plan: Plan) -> anyhow::Result<()> {
         sweeps,
         surveys,
         looks,
-        stops: _,
-        old: _,
-        new: _,
-        resumed: _,
         wrong,
+        ..
     } = roam(rt.alloc(), plan)?;
     println!(rt;
         "{graphs} graphs, {objects} objects: {sweeps} sweeps, {surveys} surveys, {looks} looks, {wrong} wrong"
@@ -118,15 +110,13 @@ fn run(rt: &HostRuntime, plan: Plan) -> anyhow::Result<()> {
     let start = Instant::now(rt)?;
     let Counts {
         graphs,
-        objects: _,
         sweeps,
-        surveys: _,
-        looks: _,
         stops,
         old,
         new,
         resumed,
         wrong,
+        ..
     } = stumble(rt.alloc(), plan)?;
     println!(rt;
         "{graphs} graphs, {sweeps} sweeps: {stops} stops, {old} came up as before, {new} as after, {resumed} were swept then, {wrong} wrong"
@@ -140,9 +130,9 @@ fn run(rt: &HostRuntime, plan: Plan) -> anyhow::Result<()> {
 
 fn main(rt: HostRuntime) -> anyhow::Result<()> {
     let plan = if std::env::args(&rt)?.count() > 1 {
-        small()
+        SMALL
     } else {
-        whole()
+        WHOLE
     };
     run(&rt, plan)
 }

@@ -1,7 +1,8 @@
 // Random objects are laid and published, swept, and surveyed, beside an ordinary copy.
-use crate::desk::{Command, Desk};
 use crate::model::Model;
 use crate::random::Random;
+use crate::rig::{Command, Rig, head};
+use device::{Left, outcome};
 use pages::told::Told;
 use std::alloc::{AllocError, Global};
 
@@ -9,7 +10,7 @@ use std::alloc::{AllocError, Global};
 const MOST: u64 = 41_088;
 
 // What was done and seen.
-#[derive(Clone, Copy)]
+#[derive(Clone, Copy, Default)]
 pub struct Counts {
     pub graphs: u64,
     pub objects: u64,
@@ -28,21 +29,6 @@ fn up(count: &mut u64) {
 }
 
 impl Counts {
-    pub fn none() -> Counts {
-        Counts {
-            graphs: 0,
-            objects: 0,
-            sweeps: 0,
-            surveys: 0,
-            looks: 0,
-            stops: 0,
-            old: 0,
-            new: 0,
-            resumed: 0,
-            wrong: 0,
-        }
-    }
-
     fn expect(&mut self, right: bool) {
         if !right {
             up(&mut self.wrong);
@@ -55,8 +41,8 @@ fn nearly(command: Command, i: u64) -> Command {
     let Command::Survey { kind, mut key } = command else {
         return command;
     };
-    if i < 4 {
-        key[i as usize] ^= 1;
+    if let Some(word) = key.get_mut(i as usize) {
+        *word ^= 1;
     }
     Command::Survey { kind, key }
 }
@@ -64,7 +50,7 @@ fn nearly(command: Command, i: u64) -> Command {
 #[derive(Drop)]
 pub struct Trial {
     heap: Global,
-    pub desk: Desk,
+    pub rig: Rig,
     pub model: Model,
     random: Random,
     pages: u64,
@@ -72,9 +58,9 @@ pub struct Trial {
     head: [u64; 32],
     roots: [u64; 8],
     wanted: [u64; 8],
-    // Whether each act of a command is tried with a stop; a second desk for what comes then.
+    // Whether each act of a command is tried with a stop; a second rig for what comes then.
     watched: bool,
-    spare: Desk,
+    spare: Rig,
     pub counts: Counts,
 }
 
@@ -82,15 +68,15 @@ impl Trial {
     pub fn new(heap: Global, pages: u64, seed: u64, counts: Counts) -> Result<Trial, AllocError> {
         Ok(Trial {
             heap,
-            desk: Desk::new(heap, pages)?,
-            model: Model::new(heap)?,
+            rig: Rig::new(heap, pages)?,
+            model: Model::new(heap),
             random: Random::seeded(seed),
             pages,
             head: [0; 32],
             roots: [0; 8],
             wanted: [0; 8],
             watched: false,
-            spare: Desk::new(heap, pages)?,
+            spare: Rig::new(heap, pages)?,
             counts,
         })
     }
@@ -113,52 +99,61 @@ impl Trial {
         let done = if self.watched {
             self.run_watched(command)?
         } else {
-            self.desk.run(command)?
+            self.rig.run(command)?
         };
         self.counts.expect(done);
         Ok(())
     }
 
     fn run_watched(&mut self, command: Command) -> Result<bool, AllocError> {
-        let before = self.desk.device.head();
-        let mut told = self.desk.say(command);
+        let before = head(&self.rig.device);
+        let mut told = self.rig.say(command);
         for _ in 0..2_000u64 {
             self.try_stops(before)?;
-            if let Told::Done = told {
+            if told == Told::Done {
                 return Ok(true);
             }
-            told = self.desk.act(told)?;
+            told = self.rig.act(told)?;
         }
         Ok(false)
     }
 
     // Every outcome of a stop now, if few writes wait, or some.
     fn try_stops(&mut self, before: [u64; 32]) -> Result<(), AllocError> {
-        let waiting = self.desk.device.waiting();
+        let waiting = self.rig.device.waiting();
         if waiting > 4 {
             for _ in 0..12 {
-                self.spare.device = self.desk.device.copied(self.heap)?;
-                self.spare.device.stop_somehow(&mut self.random);
-                self.come_up(before)?;
+                let left = self.some_outcome(waiting)?;
+                self.try_stop(&left, before)?;
             }
-            return Ok(());
-        }
-        let mut outcomes = 1u64;
-        for _ in 0..waiting {
-            outcomes = outcomes.saturating_mul(3);
-        }
-        for outcome in 0..outcomes {
-            self.spare.device = self.desk.device.copied(self.heap)?;
-            self.spare.device.stop(outcome);
-            self.come_up(before)?;
+        } else {
+            for number in 0..3u64.saturating_pow(waiting as u32) {
+                let left = outcome(self.heap, number, waiting)?;
+                self.try_stop(&left, before)?;
+            }
         }
         Ok(())
+    }
+
+    fn try_stop(&mut self, left: &[Left], before: [u64; 32]) -> Result<(), AllocError> {
+        self.spare.device = self.rig.device.copied()?;
+        self.spare.device.stop(left);
+        self.come_up(before)
+    }
+
+    // An outcome at random.
+    fn some_outcome(&mut self, waiting: usize) -> Result<Vec<Left>, AllocError> {
+        let mut left = Vec::new(self.heap);
+        for _ in 0..waiting {
+            left.push(Left::from(self.random.below(3)))?;
+        }
+        Ok(left)
     }
 
     // After a stop all is as before or as after the command, as the head says.
     fn come_up(&mut self, before: [u64; 32]) -> Result<(), AllocError> {
         up(&mut self.counts.stops);
-        let head = self.spare.device.head();
+        let head = head(&self.spare.device);
         let roots = if head == before {
             up(&mut self.counts.old);
             self.roots
@@ -179,7 +174,7 @@ impl Trial {
         up(&mut self.counts.resumed);
         self.spare.power();
         let done = self.spare.run(Command::Sweep)?;
-        let head = self.spare.device.head();
+        let head = head(&self.spare.device);
         self.model.reach(roots);
         let pages = self.model.live_pages();
         let right = self.model.matches(&self.spare.device, &head, roots);
@@ -254,14 +249,10 @@ impl Trial {
     fn choose_roots(&mut self) -> [u64; 8] {
         let mut roots = self.roots;
         let end = self.model.end();
-        for i in 0..8 {
+        for root in roots.iter_mut() {
             match self.random.below(5) {
-                0 => {
-                    roots[i] = 0;
-                }
-                1 | 2 => {
-                    roots[i] = self.some_live(end);
-                }
+                0 => *root = 0,
+                1 | 2 => *root = self.some_live(end),
                 _ => {}
             }
         }
@@ -270,9 +261,9 @@ impl Trial {
 
     fn drop_roots(&mut self) -> [u64; 8] {
         let mut roots = self.roots;
-        for i in 0..8 {
+        for root in roots.iter_mut() {
             if self.random.once_in(2) {
-                roots[i] = 0;
+                *root = 0;
             }
         }
         roots
@@ -292,20 +283,13 @@ impl Trial {
             }
             let unit = page.saturating_mul(8).saturating_add(words / 8);
             self.model.call(number, unit.saturating_add(1));
-            self.poke_object(number, words);
+            self.rig.poke(words as usize, &self.model.stored(number)?);
             words = words.saturating_add(more);
         }
         if words > 0 {
             page = self.lay_buffer(page, words)?;
         }
         Ok(page)
-    }
-
-    fn poke_object(&mut self, number: u64, words: u64) {
-        for i in 0..self.model.size(number) {
-            let word = self.model.stored(number, i);
-            self.desk.poke(words.saturating_add(i) as usize, word);
-        }
     }
 
     fn lay_buffer(&mut self, page: u64, words: u64) -> Result<u64, AllocError> {
@@ -317,15 +301,13 @@ impl Trial {
     // Publishes a head with these roots and a window that ends at a page.
     pub fn publish(&mut self, last: u64, roots: [u64; 8]) -> Result<(), AllocError> {
         self.head[1] = last;
-        for i in 0..8 {
-            self.head[i + 2] = self.model.name(roots[i]);
+        for (name, root) in self.head[2..10].iter_mut().zip(roots) {
+            *name = self.model.name(root);
         }
-        for i in 10..32 {
-            self.head[i] = self.random.next();
+        for word in self.head[10..32].iter_mut() {
+            *word = self.random.next();
         }
-        for i in 0..32 {
-            self.desk.poke(i, self.head[i]);
-        }
+        self.rig.poke(0, &self.head);
         self.wanted = roots;
         self.run(Command::Publish)?;
         self.roots = roots;
@@ -345,8 +327,8 @@ impl Trial {
     // CHECKS
 
     pub fn is_right(&mut self) -> bool {
-        let head = self.desk.device.head();
-        self.model.matches(&self.desk.device, &head, self.roots)
+        let head = head(&self.rig.device);
+        self.model.matches(&self.rig.device, &head, self.roots)
     }
 
     pub fn sweep(&mut self) -> Result<(), AllocError> {
@@ -358,14 +340,13 @@ impl Trial {
 
     // What a sweep leaves: a window behind the old one, with copies of what is live only; all else of the head stays.
     pub fn check_swept(&mut self) {
-        let head = self.desk.device.head();
+        let head = head(&self.rig.device);
         self.model.reach(self.roots);
         let pages = self.model.live_pages();
-        let mut right = head[0] == self.head[1] && head[1] == head[0].saturating_add(pages);
-        for i in 10..32 {
-            right = right && head[i] == self.head[i];
-        }
-        right = right && self.is_right();
+        let right = head[0] == self.head[1]
+            && head[1] == head[0].saturating_add(pages)
+            && head[10..32] == self.head[10..32]
+            && self.is_right();
         self.counts.expect(right);
         self.model.adopt();
         self.head = head;
@@ -375,10 +356,7 @@ impl Trial {
     // The survey that looks for an object's key, under its own kind or another one.
     pub fn survey_for(&self, number: u64, kind: u64) -> Command {
         let behind = self.model.references(number).saturating_add(2);
-        let mut key = [0; 4];
-        for i in 0..4 {
-            key[i] = self.model.word(number, behind.saturating_add(i as u64));
-        }
+        let key = [0, 1, 2, 3].map(|i| self.model.word(number, behind.saturating_add(i)));
         Command::Survey { kind, key }
     }
 
@@ -387,7 +365,7 @@ impl Trial {
         self.model.reach(self.roots);
         let there = self.model.is_live(number) && self.model.kind(number) == kind;
         let found = if there { self.model.name(number) } else { 0 };
-        let right = self.desk.shown == [self.model.live_weight(), found];
+        let right = self.rig.shown == [self.model.live_weight(), found];
         self.counts.expect(right);
         up(&mut self.counts.surveys);
     }
@@ -435,9 +413,8 @@ impl Trial {
         }
         let at = self.model.name(number).saturating_sub(1).saturating_mul(8);
         self.run(Command::Object { at, limit: MOST })?;
-        for i in 0..self.model.size(number) {
-            let right = self.desk.peek(i as usize) == self.model.stored(number, i);
-            self.counts.expect(right);
+        for (seen, word) in self.rig.peek(0).iter().zip(&self.model.stored(number)?) {
+            self.counts.expect(seen == word);
         }
         up(&mut self.counts.looks);
         Ok(())
@@ -446,7 +423,7 @@ impl Trial {
     // A round: new objects under new roots, after a sweep if the ring would run short; then checks at random.
     pub fn round(&mut self, many: u64, largest: u64) -> Result<(), AllocError> {
         if self.random.once_in(4) {
-            self.desk.power();
+            self.rig.power();
         }
         self.model.reach(self.roots);
         let from = self.model.end();
