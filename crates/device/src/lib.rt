@@ -10,6 +10,7 @@ ghost use Rattle.device.specs.Left.{code, digits};
 pub mod desk;
 
 use std::alloc::{AllocError, Global};
+use std::fmt;
 use std::marker::Model;
 
 pub type Page = [u8; 512];
@@ -32,6 +33,17 @@ impl From<u64> for Left {
             1 => Left::All,
             _ => Left::FirstHalf,
         }
+    }
+}
+
+// The digit to the base 3.
+impl fmt::Display for Left {
+    fn fmt<W: fmt::Write>(&self, f: &mut fmt::Formatter<W>) -> fmt::Result {
+        f.write_str(match self {
+            Left::Nothing => "0",
+            Left::All => "1",
+            Left::FirstHalf => "2",
+        })
     }
 }
 
