@@ -1,9 +1,9 @@
 // Marking: a walk down the tape that meets each live object once. Bits of the map stand for units of the window.
-ghost use Rattle.std.specs.Prelude.{◌≡◌, ◌≤◌, ◌&&◌, length, ◌==◌, slice_index};
+ghost use Rattle.std.specs.Prelude.{◌≡◌, ◌<◌, ◌≤◌, ◌&&◌, length, ◌==◌, slice_index};
 ghost use Rattle.pages.specs.Object.{kind_in, size_in};
 ghost use Rattle.pages.specs.Lists.{same};
 ghost use Rattle.objects.specs.Heap.{units};
-ghost use Rattle.objects.specs.Marking.{key_met, key_words, met_memory, met_walk, references_met, rooted, roots_marked, sought, stride, unmarked, went_on, with_reference, with_references};
+ghost use Rattle.objects.specs.Marking.{begun, key_met, key_words, met_memory, met_walk, references_met, rooted, sought, stride, unmarked, went_on, with_reference, with_references};
 ghost use Rattle.objects.specs.Plan.{map_of, plan_end, with_map};
 
 use crate::plan;
@@ -149,9 +149,10 @@ pub fn mark_root(memory: &mut [u64], first: u64, reference: u64)
     }
 }
 
-// Marks the roots and nothing else.
+// Marks the roots and nothing else; a memory that is too short stays as it is.
 pub fn mark_roots(memory: &mut [u64], first: u64, roots: &[u64])
-    ensures { memory.new ≡ roots_marked first roots.now memory.old }
+    ensures marked { plan_end ≤ length memory.old → memory.new ≡ begun first roots.now memory.old }
+    ensures short { length memory.old < plan_end → memory.new ≡ memory.old }
 {
     unmark(memory);
     for reference in roots {

@@ -3,7 +3,6 @@ use Rattle.pages.specs.Machine.{capped}
 use Rattle.objects.specs.Marking.{begun, key, sought, walk}
 use Rattle.objects.specs.Plan.{head_at}
 use Rattle.objects.specs.Sweeping.{marking}
-use Rattle.objects.proofs.MarkLaws.{roots_long}
 use Rattle.objects.proofs.SweepSteps.{begun_is, begun_short}
 use Rattle.objects.proofs.sweep.Sweep.begin.Goals as goal
 
@@ -18,5 +17,5 @@ returns c =
     c.met.ensures
     ∙ ap (marking (get_or m 41153 0))
     (c.seek-request.ensures
-    ∙ ap₂ sought (ap₂ (λ i j. walk i j 0 0 (key 0 0 0 0) 0) first below) (c.mark_roots.ensures ∙ roots_long _ _ m c.if-memory-lt-END.false ∙ ap₂ (λ i rs. begun i rs m) first c.copy_from_slice.ensures.after))
+    ∙ ap₂ sought (ap₂ (λ i j. walk i j 0 0 (key 0 0 0 0) 0) first below) (c.mark_roots.ensures.marked c.if-memory-lt-END.false ∙ ap₂ (λ i rs. begun i rs m) first c.copy_from_slice.ensures.after))
     ∙ begun_is c.args.self.now m c.if-memory-lt-END.false
