@@ -18,6 +18,7 @@ use Rattle.objects.specs.Heap.{Live, root, named, Placed, Heap, rising, units, h
 use Rattle.objects.specs.Marking.{glance, walk, stride, with_reference, with_references, run_from, begun, unmarked, rooted, references_met, key_met, key_words, found_now, map_met, met_walk, met_memory, sought_at, sought, went_on, walked, Walks, Keeps, Marked, Marks}
 use Rattle.objects.specs.declared.mark.Key.{Key}
 use Rattle.objects.specs.declared.mark.Walk.{Walk}
+use borrow.Rule.Slice.PartMut.{put_mid}
 use Rattle.store.proofs.BitLaws.{all_clear, bits_set, set_here, run_set, small_with_bit, small_with_run, finds}
 use Rattle.objects.proofs.PlanLaws.{
   part_of_front,
@@ -32,6 +33,7 @@ use Rattle.objects.proofs.PlanLaws.{
   before_map,
   behind_map,
   part_before_map,
+  put_map,
 }
 
 -- THE MAP'S BITS
@@ -657,6 +659,12 @@ begun_more first r rs m h =
     l = length_with_references first rs (zeros map_words) ∙ length_zeros map_words
 
 -- and from the head in its place, so many of its roots
+-- the map as a write through its part of memory leaves it
+pub put_reference : (first r : ℕ) (m ws : List ℕ) → plan_end ≤ length m → ws ≡ with_reference first r (map_of m) →
+    put_mid map_at map_words m ws ≡ with_map (with_reference first r (map_of m)) m
+put_reference first r m ws h e =
+    put_map ws m (ap length e ∙ length_with_reference first r (map_of m) ∙ length_map_of m h) ∙ ap (λ xs. with_map xs m) e
+
 -- roots marked one by one, in a memory of any length
 abbrev pub roots_marked : ℕ → List ℕ → List ℕ → List ℕ
 roots_marked first roots m = pick (ltb (length m) plan_end) m (begun first roots m)

@@ -54,12 +54,11 @@ pub(crate) fn units_in(word: u64) -> u64
 }
 
 // Marks a reference into the window that starts at a unit.
-fn mark_reference(memory: &mut [u64], first: u64, reference: u64)
-    requires { plan_end ≤ length memory.old }
-    ensures { memory.new ≡ with_map (with_reference first reference (map_of memory.old)) memory.old }
+fn mark_reference(map: &mut [u64], first: u64, reference: u64)
+    ensures { map.new ≡ with_reference first reference map.old }
 {
     if reference > first {
-        bitmap::set(&mut memory[plan::MAP..plan::COUNTS], reference - 1 - first);
+        bitmap::set(map, reference - 1 - first);
     }
 }
 
@@ -69,9 +68,10 @@ fn mark_references(memory: &mut [u64], first: u64)
     ensures { memory.new ≡ with_map (with_references first (references_met memory.old) (map_of memory.old)) memory.old }
 {
     let many = references_in(memory[0]).min(4_096) as usize;
+    // As it stands: the references are read out of the lent row that the map is written in.
     for i in 0..many {
         let reference = memory[i + 2];
-        mark_reference(memory, first, reference);
+        mark_reference(&mut memory[plan::MAP..plan::COUNTS], first, reference);
     }
 }
 
@@ -145,7 +145,7 @@ pub fn mark_root(memory: &mut [u64], first: u64, reference: u64)
     ensures { memory.new ≡ rooted first reference memory.old }
 {
     if memory.len() >= plan::END {
-        mark_reference(memory, first, reference);
+        mark_reference(&mut memory[plan::MAP..plan::COUNTS], first, reference);
     }
 }
 
