@@ -12,7 +12,7 @@ use pages::bytes::number;
 use pages::object::{heading, kind_in};
 
 // The kinds of objects, by the numbers that the format gives them; a tree is laid with the tree rows.
-#[derive(Clone, Copy)]
+#[derive(Clone, Copy, Debug, PartialEq, Eq)]
 enum Kind {
     File = 1,
     Commit = 3,
@@ -20,7 +20,7 @@ enum Kind {
 }
 
 // A commit: references to its tree and its parents, of which none to two are there, and what it says; of its words so many bytes.
-#[derive(Clone, Copy)]
+#[derive(Clone, Copy, Debug, PartialEq, Eq)]
 pub struct Commit {
     pub tree: u64,
     pub one: u64,
@@ -32,7 +32,7 @@ pub struct Commit {
 }
 
 // A name: references to the next one of its list and to its commit, which list it is in, and how many bytes it has.
-#[derive(Clone, Copy)]
+#[derive(Clone, Copy, Debug, PartialEq, Eq)]
 pub struct Name {
     pub next: u64,
     pub commit: u64,
@@ -229,6 +229,7 @@ pub fn put_bytes(memory: &mut [u64], at: usize, bytes: &[u8])
     if at > memory.len() || words > memory.len() - at {
         return;
     }
+    // As it stands: chunks of eight would be padded and placed by their number all the same.
     for i in 0..words {
         memory[at + i] = number(&eight_at(bytes, i));
     }

@@ -15,7 +15,8 @@ use store::bitmap;
 pub const GLANCE: u64 = 4_104;
 
 // The key of a file or a commit, four words.
-#[derive(Clone, Copy)]
+// As it stands: an array is in a clause a list of any length, and that a key comes back as it was laid holds of four words.
+#[derive(Clone, Copy, Debug, Default, PartialEq, Eq)]
 pub struct Key {
     pub a: u64,
     pub b: u64,
@@ -32,7 +33,8 @@ impl Key {
 }
 
 // A walk's registers.
-#[derive(Clone, Copy)]
+// As it stands: they are cells of a house's memory, so any number may be looked for, and 0 stands for none.
+#[derive(Clone, Copy, Debug, Default, PartialEq, Eq)]
 pub struct Walk {
     // The first unit of the window.
     pub first: u64,

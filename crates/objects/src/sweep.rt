@@ -4,7 +4,7 @@ ghost use Rattle.objects.specs.Marking.{stride, went_on};
 ghost use Rattle.objects.specs.Plan.{plan_end};
 ghost use Rattle.objects.specs.Sweeping.{closing, copied, copying, marking, new_head, new_name, publishing, renaming, sweep_begun, sweep_went_on, swing};
 
-use crate::mark::{Key, Walk, units_in};
+use crate::mark::{Walk, units_in};
 use crate::pack::copy_words;
 use crate::{mark, pack, plan, ranks};
 use pages::machine::Request;
@@ -12,7 +12,7 @@ use pages::object::references_in;
 use store::bitmap;
 
 // What is being done.
-#[derive(Clone, Copy)]
+#[derive(Clone, Copy, Debug, PartialEq, Eq)]
 pub enum Stage {
     // Live objects are met.
     Marking,
@@ -27,7 +27,7 @@ pub enum Stage {
 }
 
 // A sweep's registers.
-#[derive(Clone, Copy)]
+#[derive(Clone, Copy, Debug, PartialEq, Eq)]
 pub struct Sweep {
     pub stage: Stage,
     pub walk: Walk,
@@ -39,6 +39,8 @@ pub struct Sweep {
     pub waiting: u64,
 }
 
+// As it stands: that memory holds all parts of the plan is said by each method, since a struct with the lent row would
+// have to say of each that the loan stays the same.
 impl Sweep {
     // The new name of a reference.
     fn new_name(&self, memory: &[u64], reference: u64) -> u64
@@ -178,15 +180,7 @@ impl Sweep {
         let mut walk = Walk {
             first: first.saturating_mul(8),
             below: last.saturating_sub(first).saturating_mul(8),
-            weight: 0,
-            kind: 0,
-            key: Key {
-                a: 0,
-                b: 0,
-                c: 0,
-                d: 0,
-            },
-            found: 0,
+            ..Walk::default()
         };
         let mut roots = [0; 8];
         roots.copy_from_slice(&memory[plan::HEAD + 2..plan::HEAD + 10]);
