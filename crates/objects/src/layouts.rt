@@ -58,13 +58,15 @@ fn stands(memory: &[u64], most: u64, bytes: u64, from: usize) -> bool
         && from <= memory.len() - words_for(bytes)
 }
 
-// Puts an object in front of the buffer: its first words, and then words that stand behind the buffer.
-fn put_object(memory: &mut [u64], front: &[u64], from: usize, many: usize)
+// Puts an object in front of the buffer: its first words, and then words that stand behind the buffer; says how many it has.
+fn put_object(memory: &mut [u64], front: &[u64], from: usize, many: usize) -> u64
     requires { (length front.now ≤ from) × (from + many ≤ length memory.old) }
-    ensures { memory.new ≡ over 0 (front.now ++ take many (drop from memory.old)) memory.old }
+    ensures words { result ≡ length front.now + many }
+    ensures memory { memory.new ≡ over 0 (front.now ++ take many (drop from memory.old)) memory.old }
 {
     copy_words(memory, from, front.len(), many);
     memory[0..front.len()].copy_from_slice(front);
+    (front.len() + many) as u64
 }
 
 // Puts a file together, and says how many words it has.
@@ -84,8 +86,7 @@ pub fn compose_file(memory: &mut [u64], sum: Key, bytes: u64, from: usize) -> Op
         sum.c,
         sum.d,
     ];
-    put_object(memory, &front, from, words);
-    Some(6 + words as u64)
+    Some(put_object(memory, &front, from, words))
 }
 
 // The first words of a commit whose own words are so many.
@@ -120,8 +121,7 @@ pub fn compose_commit(memory: &mut [u64], commit: Commit, from: usize) -> Option
     }
     let words = words_for(commit.bytes);
     let front = commit_front(&commit, words as u32);
-    put_object(memory, &front, from, words);
-    Some(11 + words as u64)
+    Some(put_object(memory, &front, from, words))
 }
 
 // Puts a name together, and says how many words it has.
@@ -141,8 +141,7 @@ pub fn compose_name(memory: &mut [u64], name: Name, from: usize) -> Option<u64>
         name.list,
         name.bytes,
     ];
-    put_object(memory, &front, from, words);
-    Some(6 + words as u64)
+    Some(put_object(memory, &front, from, words))
 }
 
 // Whether the object in the buffer is of a kind.

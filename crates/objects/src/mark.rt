@@ -1,9 +1,9 @@
 // Marking: a walk down the tape that meets each live object once. Bits of the map stand for units of the window.
-ghost use Rattle.std.specs.Prelude.{◌≡◌, ◌<◌, ◌≤◌, ◌&&◌, length, ◌==◌, slice_index};
-ghost use Rattle.pages.specs.Object.{kind_in, size_in};
+ghost use Rattle.std.specs.Prelude.{◌≡◌, ◌<◌, ◌≤◌, ◌&&◌, min, length, ◌==◌, slice_index};
+ghost use Rattle.pages.specs.Object.{kind_in, references_in, size_in};
 ghost use Rattle.pages.specs.Lists.{same};
 ghost use Rattle.objects.specs.Heap.{units};
-ghost use Rattle.objects.specs.Marking.{begun, key_met, key_words, met_memory, met_walk, references_met, rooted, sought, stride, unmarked, went_on, with_reference, with_references};
+ghost use Rattle.objects.specs.Marking.{begun, key_met, key_words, met_memory, met_walk, references_met as met_of, rooted, sought, stride, unmarked, went_on, with_reference, with_references};
 ghost use Rattle.objects.specs.Plan.{map_of, plan_end, with_map};
 
 use crate::plan;
@@ -48,6 +48,13 @@ pub struct Walk {
     pub found: u64,
 }
 
+// How many references of an object are looked at, by its first word.
+pub(crate) fn references_met(word: u64) -> usize
+    ensures { result ≡ min (references_in word) 4096 }
+{
+    references_in(word).min(4_096) as usize
+}
+
 // How many units an object takes, by its first word.
 pub(crate) fn units_in(word: u64) -> u64
     ensures { result ≡ units (size_in word) }
@@ -67,9 +74,9 @@ fn mark_reference(map: &mut [u64], first: u64, reference: u64)
 // Marks the references of the object in the buffer.
 fn mark_references(memory: &mut [u64], first: u64)
     requires { plan_end ≤ length memory.old }
-    ensures { memory.new ≡ with_map (with_references first (references_met memory.old) (map_of memory.old)) memory.old }
+    ensures { memory.new ≡ with_map (with_references first (met_of memory.old) (map_of memory.old)) memory.old }
 {
-    let many = references_in(memory[0]).min(4_096) as usize;
+    let many = references_met(memory[0]);
     // As it stands: the references are read out of the lent row that the map is written in.
     for i in 0..many {
         let reference = memory[i + 2];
@@ -83,7 +90,7 @@ impl Walk {
         requires { plan_end ≤ length memory.now }
         ensures { result ≡ (kind_in (slice_index memory.now 0) == self.now.kind) && same (key_met memory.now) (key_words self.now.key) }
     {
-        let at = 2 + references_in(memory[0]).min(4_096) as usize;
+        let at = 2 + references_met(memory[0]);
         let key = self.key.words();
         kind_in(memory[0]) == self.kind && &memory[at..at + 4] == key.as_slice()
     }

@@ -4,11 +4,10 @@ ghost use Rattle.objects.specs.Marking.{stride, went_on};
 ghost use Rattle.objects.specs.Plan.{plan_end};
 ghost use Rattle.objects.specs.Sweeping.{closing, copied, copying, marking, new_head, new_name, publishing, renaming, sweep_begun, sweep_went_on, swing};
 
-use crate::mark::{Walk, units_in};
+use crate::mark::{Walk, references_met, units_in};
 use crate::pack::copy_words;
 use crate::{mark, pack, plan, ranks};
 use pages::machine::Request;
-use pages::object::references_in;
 use store::bitmap;
 
 // What is being done.
@@ -129,7 +128,7 @@ impl Sweep {
     {
         let header = memory[0];
         let units = units_in(header);
-        self.rename(memory, 2, references_in(header).min(4_096) as usize);
+        self.rename(memory, 2, references_met(header));
         let pages = pack::pack(memory, self.waiting, 8 * units);
         self.at = self.at.saturating_add(units);
         self.waiting = (self.waiting.min(63) + (8 * units).min(41_024)) % 64;
