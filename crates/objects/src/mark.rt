@@ -15,7 +15,7 @@ use store::bitmap;
 pub const GLANCE: u64 = 4_104;
 
 // The key of a file or a commit, four words.
-// As it stands: an array is in a clause a list of any length, and that a key comes back as it was laid holds of four words.
+// As it stands: in a clause an array is a list of any length; that a key comes back as it was laid holds of four words.
 #[derive(Clone, Copy, Debug, Default, PartialEq, Eq)]
 pub struct Key {
     pub a: u64,

@@ -38,8 +38,7 @@ pub struct Sweep {
     pub waiting: u64,
 }
 
-// As it stands: that memory holds all parts of the plan is said by each method, since a struct with the lent row would
-// have to say of each that the loan stays the same.
+// As it stands: each method says that memory holds the plan; a struct with the lent row would say of each that the loan stays.
 impl Sweep {
     // The new name of a reference.
     fn new_name(&self, memory: &[u64], reference: u64) -> u64
