@@ -15,9 +15,10 @@ use Rattle.pages.proofs.WordLaws.{length_over, length_zeros, small_zeros}
 use Rattle.store.specs.Bitmap.{bit, with_bit, with_run, highest, HighestIs}
 use Rattle.objects.specs.Plan.{map_at, map_words, plan_end, map_of, with_map}
 use Rattle.objects.specs.Heap.{Live, root, named, Placed, Heap, rising, units, heading_at, units_at, keyed, has_key, covered, weights}
-use Rattle.objects.specs.Marking.{glance, walk, stride, with_reference, with_references, run_from, begun, unmarked, rooted, roots_marked, references_met, key_met, key_words, found_now, map_met, met_walk, met_memory, sought_at, sought, went_on, walked, Walks, Keeps, Marked, Marks}
+use Rattle.objects.specs.Marking.{glance, walk, stride, with_reference, with_references, run_from, begun, unmarked, rooted, references_met, key_met, key_words, found_now, map_met, met_walk, met_memory, sought_at, sought, went_on, walked, Walks, Keeps, Marked, Marks}
 use Rattle.objects.specs.declared.mark.Key.{Key}
 use Rattle.objects.specs.declared.mark.Walk.{Walk}
+use borrow.Rule.Slice.PartMut.{put_mid}
 use Rattle.store.proofs.BitLaws.{all_clear, bits_set, set_here, run_set, small_with_bit, small_with_run, finds}
 use Rattle.objects.proofs.PlanLaws.{
   part_of_front,
@@ -32,6 +33,7 @@ use Rattle.objects.proofs.PlanLaws.{
   before_map,
   behind_map,
   part_before_map,
+  put_map,
 }
 
 -- THE MAP'S BITS
@@ -657,7 +659,19 @@ begun_more first r rs m h =
     l = length_with_references first rs (zeros map_words) ∙ length_zeros map_words
 
 -- and from the head in its place, so many of its roots
+-- the map as a write through its part of memory leaves it
+pub put_reference : (first r : ℕ) (m ws : List ℕ) → plan_end ≤ length m → ws ≡ with_reference first r (map_of m) →
+    put_mid map_at map_words m ws ≡ with_map (with_reference first r (map_of m)) m
+put_reference first r m ws h e =
+    put_map ws m (ap length e ∙ length_with_reference first r (map_of m) ∙ length_map_of m h) ∙ ap (λ xs. with_map xs m) e
+
 -- roots marked one by one, in a memory of any length
+abbrev pub roots_marked : ℕ → List ℕ → List ℕ → List ℕ
+roots_marked first roots m = pick (ltb (length m) plan_end) m (begun first roots m)
+
+pub roots_short : (first : ℕ) (rs m : List ℕ) → length m < plan_end → roots_marked first rs m ≡ m
+roots_short first rs m h = pick_true (ltb (length m) plan_end) m (begun first rs m) (lt-ltb (length m) plan_end h)
+
 pub roots_none : (first : ℕ) (m : List ℕ) → unmarked m ≡ roots_marked first [] m
 unfolding with_references
 roots_none first m = refl
@@ -670,9 +684,9 @@ roots_more first r rs m = go (cases_lt (length m) plan_end)
   where
     go : (length m < plan_end) ⊎ (plan_end ≤ length m) → rooted first r (roots_marked first rs m) ≡ roots_marked first (rs ++ r ∷ []) m
     go (inl h) =
-        ap (rooted first r) (pick_true (ltb (length m) plan_end) m (begun first rs m) (lt-ltb (length m) plan_end h))
+        ap (rooted first r) (roots_short first rs m h)
         ∙ pick_true (ltb (length m) plan_end) m (with_map (with_reference first r (map_of m)) m) (lt-ltb (length m) plan_end h)
-        ∙ sym (pick_true (ltb (length m) plan_end) m (begun first (rs ++ r ∷ []) m) (lt-ltb (length m) plan_end h))
+        ∙ sym (roots_short first (rs ++ r ∷ []) m h)
     go (inr h) = ap (rooted first r) (roots_long first rs m h) ∙ begun_more first r rs m h ∙ sym (roots_long first (rs ++ r ∷ []) m h)
 
 -- what is looked for came, or it did not

@@ -65,9 +65,6 @@ unmarked m = pick (nat_lt (length m) plan_end) m (with_map (zeros map_words) m)
 abbrev pub rooted : ℕ → ℕ → List ℕ → List ℕ
 rooted first r m = pick (nat_lt (length m) plan_end) m (with_map (with_reference first r (map_of m)) m)
 
-abbrev pub roots_marked : ℕ → List ℕ → List ℕ → List ℕ
-roots_marked first roots m = pick (nat_lt (length m) plan_end) m (begun first roots m)
-
 -- the object that came is met
 abbrev pub references_met : List ℕ → List ℕ
 references_met m = take (min (references_in (slice_index m 0)) 4096) (drop 2 m)

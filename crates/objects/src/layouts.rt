@@ -12,7 +12,7 @@ use pages::bytes::number;
 use pages::object::{heading, kind_in};
 
 // The kinds of objects, by the numbers that the format gives them; a tree is laid with the tree rows.
-#[derive(Clone, Copy)]
+#[derive(Clone, Copy, Debug, PartialEq, Eq)]
 enum Kind {
     File = 1,
     Commit = 3,
@@ -20,7 +20,7 @@ enum Kind {
 }
 
 // A commit: references to its tree and its parents, of which none to two are there, and what it says; of its words so many bytes.
-#[derive(Clone, Copy)]
+#[derive(Clone, Copy, Debug, PartialEq, Eq)]
 pub struct Commit {
     pub tree: u64,
     pub one: u64,
@@ -32,7 +32,7 @@ pub struct Commit {
 }
 
 // A name: references to the next one of its list and to its commit, which list it is in, and how many bytes it has.
-#[derive(Clone, Copy)]
+#[derive(Clone, Copy, Debug, PartialEq, Eq)]
 pub struct Name {
     pub next: u64,
     pub commit: u64,
@@ -58,13 +58,15 @@ fn stands(memory: &[u64], most: u64, bytes: u64, from: usize) -> bool
         && from <= memory.len() - words_for(bytes)
 }
 
-// Puts an object in front of the buffer: its first words, and then words that stand behind the buffer.
-fn put_object(memory: &mut [u64], front: &[u64], from: usize, many: usize)
+// Puts an object in front of the buffer: its first words, and then words that stand behind the buffer; says how many it has.
+fn put_object(memory: &mut [u64], front: &[u64], from: usize, many: usize) -> u64
     requires { (length front.now ≤ from) × (from + many ≤ length memory.old) }
-    ensures { memory.new ≡ over 0 (front.now ++ take many (drop from memory.old)) memory.old }
+    ensures words { result ≡ length front.now + many }
+    ensures memory { memory.new ≡ over 0 (front.now ++ take many (drop from memory.old)) memory.old }
 {
     copy_words(memory, from, front.len(), many);
     memory[0..front.len()].copy_from_slice(front);
+    (front.len() + many) as u64
 }
 
 // Puts a file together, and says how many words it has.
@@ -84,8 +86,7 @@ pub fn compose_file(memory: &mut [u64], sum: Key, bytes: u64, from: usize) -> Op
         sum.c,
         sum.d,
     ];
-    put_object(memory, &front, from, words);
-    Some(6 + words as u64)
+    Some(put_object(memory, &front, from, words))
 }
 
 // The first words of a commit whose own words are so many.
@@ -120,8 +121,7 @@ pub fn compose_commit(memory: &mut [u64], commit: Commit, from: usize) -> Option
     }
     let words = words_for(commit.bytes);
     let front = commit_front(&commit, words as u32);
-    put_object(memory, &front, from, words);
-    Some(11 + words as u64)
+    Some(put_object(memory, &front, from, words))
 }
 
 // Puts a name together, and says how many words it has.
@@ -141,8 +141,7 @@ pub fn compose_name(memory: &mut [u64], name: Name, from: usize) -> Option<u64>
         name.list,
         name.bytes,
     ];
-    put_object(memory, &front, from, words);
-    Some(6 + words as u64)
+    Some(put_object(memory, &front, from, words))
 }
 
 // Whether the object in the buffer is of a kind.
@@ -229,6 +228,7 @@ pub fn put_bytes(memory: &mut [u64], at: usize, bytes: &[u8])
     if at > memory.len() || words > memory.len() - at {
         return;
     }
+    // As it stands: chunks of eight would be padded and placed by their number all the same.
     for i in 0..words {
         memory[at + i] = number(&eight_at(bytes, i));
     }

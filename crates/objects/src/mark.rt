@@ -1,9 +1,9 @@
 // Marking: a walk down the tape that meets each live object once. Bits of the map stand for units of the window.
-ghost use Rattle.std.specs.Prelude.{◌≡◌, ◌≤◌, ◌&&◌, length, ◌==◌, slice_index};
-ghost use Rattle.pages.specs.Object.{kind_in, size_in};
+ghost use Rattle.std.specs.Prelude.{◌≡◌, ◌<◌, ◌≤◌, ◌&&◌, min, length, ◌==◌, slice_index};
+ghost use Rattle.pages.specs.Object.{kind_in, references_in, size_in};
 ghost use Rattle.pages.specs.Lists.{same};
 ghost use Rattle.objects.specs.Heap.{units};
-ghost use Rattle.objects.specs.Marking.{key_met, key_words, met_memory, met_walk, references_met, rooted, roots_marked, sought, stride, unmarked, went_on, with_reference, with_references};
+ghost use Rattle.objects.specs.Marking.{begun, key_met, key_words, met_memory, met_walk, references_met as met_of, rooted, sought, stride, unmarked, went_on, with_reference, with_references};
 ghost use Rattle.objects.specs.Plan.{map_of, plan_end, with_map};
 
 use crate::plan;
@@ -15,7 +15,8 @@ use store::bitmap;
 pub const GLANCE: u64 = 4_104;
 
 // The key of a file or a commit, four words.
-#[derive(Clone, Copy)]
+// As it stands: in a clause an array is a list of any length; that a key comes back as it was laid holds of four words.
+#[derive(Clone, Copy, Debug, Default, PartialEq, Eq)]
 pub struct Key {
     pub a: u64,
     pub b: u64,
@@ -32,7 +33,8 @@ impl Key {
 }
 
 // A walk's registers.
-#[derive(Clone, Copy)]
+// As it stands: they are cells of a house's memory, so any number may be looked for, and 0 stands for none.
+#[derive(Clone, Copy, Debug, Default, PartialEq, Eq)]
 pub struct Walk {
     // The first unit of the window.
     pub first: u64,
@@ -46,6 +48,13 @@ pub struct Walk {
     pub found: u64,
 }
 
+// How many references of an object are looked at, by its first word.
+pub(crate) fn references_met(word: u64) -> usize
+    ensures { result ≡ min (references_in word) 4096 }
+{
+    references_in(word).min(4_096) as usize
+}
+
 // How many units an object takes, by its first word.
 pub(crate) fn units_in(word: u64) -> u64
     ensures { result ≡ units (size_in word) }
@@ -54,24 +63,24 @@ pub(crate) fn units_in(word: u64) -> u64
 }
 
 // Marks a reference into the window that starts at a unit.
-fn mark_reference(memory: &mut [u64], first: u64, reference: u64)
-    requires { plan_end ≤ length memory.old }
-    ensures { memory.new ≡ with_map (with_reference first reference (map_of memory.old)) memory.old }
+fn mark_reference(map: &mut [u64], first: u64, reference: u64)
+    ensures { map.new ≡ with_reference first reference map.old }
 {
     if reference > first {
-        bitmap::set(&mut memory[plan::MAP..plan::COUNTS], reference - 1 - first);
+        bitmap::set(map, reference - 1 - first);
     }
 }
 
 // Marks the references of the object in the buffer.
 fn mark_references(memory: &mut [u64], first: u64)
     requires { plan_end ≤ length memory.old }
-    ensures { memory.new ≡ with_map (with_references first (references_met memory.old) (map_of memory.old)) memory.old }
+    ensures { memory.new ≡ with_map (with_references first (met_of memory.old) (map_of memory.old)) memory.old }
 {
-    let many = references_in(memory[0]).min(4_096) as usize;
+    let many = references_met(memory[0]);
+    // As it stands: the references are read out of the lent row that the map is written in.
     for i in 0..many {
         let reference = memory[i + 2];
-        mark_reference(memory, first, reference);
+        mark_reference(&mut memory[plan::MAP..plan::COUNTS], first, reference);
     }
 }
 
@@ -81,7 +90,7 @@ impl Walk {
         requires { plan_end ≤ length memory.now }
         ensures { result ≡ (kind_in (slice_index memory.now 0) == self.now.kind) && same (key_met memory.now) (key_words self.now.key) }
     {
-        let at = 2 + references_in(memory[0]).min(4_096) as usize;
+        let at = 2 + references_met(memory[0]);
         let key = self.key.words();
         kind_in(memory[0]) == self.kind && &memory[at..at + 4] == key.as_slice()
     }
@@ -145,13 +154,14 @@ pub fn mark_root(memory: &mut [u64], first: u64, reference: u64)
     ensures { memory.new ≡ rooted first reference memory.old }
 {
     if memory.len() >= plan::END {
-        mark_reference(memory, first, reference);
+        mark_reference(&mut memory[plan::MAP..plan::COUNTS], first, reference);
     }
 }
 
-// Marks the roots and nothing else.
+// Marks the roots and nothing else; a memory that is too short stays as it is.
 pub fn mark_roots(memory: &mut [u64], first: u64, roots: &[u64])
-    ensures { memory.new ≡ roots_marked first roots.now memory.old }
+    ensures marked { plan_end ≤ length memory.old → memory.new ≡ begun first roots.now memory.old }
+    ensures short { length memory.old < plan_end → memory.new ≡ memory.old }
 {
     unmark(memory);
     for reference in roots {

@@ -4,15 +4,14 @@ ghost use Rattle.objects.specs.Marking.{stride, went_on};
 ghost use Rattle.objects.specs.Plan.{plan_end};
 ghost use Rattle.objects.specs.Sweeping.{closing, copied, copying, marking, new_head, new_name, publishing, renaming, sweep_begun, sweep_went_on, swing};
 
-use crate::mark::{Key, Walk, units_in};
+use crate::mark::{Walk, references_met, units_in};
 use crate::pack::copy_words;
 use crate::{mark, pack, plan, ranks};
 use pages::machine::Request;
-use pages::object::references_in;
 use store::bitmap;
 
 // What is being done.
-#[derive(Clone, Copy)]
+#[derive(Clone, Copy, Debug, PartialEq, Eq)]
 pub enum Stage {
     // Live objects are met.
     Marking,
@@ -27,7 +26,7 @@ pub enum Stage {
 }
 
 // A sweep's registers.
-#[derive(Clone, Copy)]
+#[derive(Clone, Copy, Debug, PartialEq, Eq)]
 pub struct Sweep {
     pub stage: Stage,
     pub walk: Walk,
@@ -39,6 +38,7 @@ pub struct Sweep {
     pub waiting: u64,
 }
 
+// As it stands: each method says that memory holds the plan; a struct with the lent row would say of each that the loan stays.
 impl Sweep {
     // The new name of a reference.
     fn new_name(&self, memory: &[u64], reference: u64) -> u64
@@ -127,7 +127,7 @@ impl Sweep {
     {
         let header = memory[0];
         let units = units_in(header);
-        self.rename(memory, 2, references_in(header).min(4_096) as usize);
+        self.rename(memory, 2, references_met(header));
         let pages = pack::pack(memory, self.waiting, 8 * units);
         self.at = self.at.saturating_add(units);
         self.waiting = (self.waiting.min(63) + (8 * units).min(41_024)) % 64;
@@ -178,15 +178,7 @@ impl Sweep {
         let mut walk = Walk {
             first: first.saturating_mul(8),
             below: last.saturating_sub(first).saturating_mul(8),
-            weight: 0,
-            kind: 0,
-            key: Key {
-                a: 0,
-                b: 0,
-                c: 0,
-                d: 0,
-            },
-            found: 0,
+            ..Walk::default()
         };
         let mut roots = [0; 8];
         roots.copy_from_slice(&memory[plan::HEAD + 2..plan::HEAD + 10]);

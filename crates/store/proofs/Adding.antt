@@ -1,12 +1,14 @@
 -- Bytes that come in pieces: the sum does not see where they were cut, and what the code's two ways to add a piece come to.
-use Rattle.std.proofs.Common.{◌≡◌, ℕ, ◌+◌, ◌-◌, ◌*◌, ◌/◌, ◌%◌, ◌^◌, ◌<◌, ◌≤◌, List, [], ◌++◌, length, take, drop, sym, refl, ap, ◌∙◌, append_assoc, append-nil, mul-add, arith, length-append, length-drop, length-take}
-use Rattle.std.proofs.lemmas.List.{drop-drop, drop-append-le, take-append-drop, take_rest, take_all, drop_all}
+use Rattle.std.proofs.Common.{◌≡◌, ℕ, ◌+◌, ◌-◌, ◌*◌, ◌/◌, ◌%◌, ◌^◌, ◌<◌, ◌≤◌, List, [], ◌++◌, length, take, drop, sym, refl, ap, ◌∙◌, ap₂, append_assoc, append-nil, mul-add, arith, length-append, length-drop, length-take}
+use Rattle.std.proofs.lemmas.List.{drop-drop, drop-append-le, take-append-drop, take_all, drop_all}
+use Rattle.std.specs.List.{fold}
+use Rattle.std.specs.Simd.{first_chunks}
 use Rattle.store.specs.declared.words.Words.{Words}
 use Rattle.store.specs.declared.hasher.Hasher.{Hasher}
 use Rattle.store.specs.Sha256.{compressed, hashed}
 use Rattle.store.specs.Rows.{over}
 use Rattle.store.specs.Running.{Progress, fresh, progress, added}
-use Rattle.store.proofs.Hashing.{hashed_later, hashed_front}
+use Rattle.store.proofs.Hashing.{hashed_blocks, hashed_later, hashed_front}
 use Rattle.store.proofs.Written.{take_over}
 
 same_progress : {s t : Words} {v w : List ℕ} {m n : ℕ} → s ≡ t → v ≡ w → m ≡ n
@@ -120,15 +122,12 @@ module _ (s : Words) (buffer bytes : List ℕ) (count : ℕ) (whole : length buf
         here ∙ ap (λ p. added p left) (sym add_block) ∙ added_added (progress was) part left ∙ ap (added (progress was)) (take-append-drop (64 - count % 64) bytes)
 
     -- with the parts as the code cuts them
-    abbrev cut : List ℕ
-    cut = take (length bytes - (64 - count % 64)) (drop (64 - count % 64) bytes)
-
-    pub add_whole : (u v : Words) (mid row : List ℕ) → mid ≡ over buffer (count % 64) (take (64 - count % 64 - 0) bytes)
-        → u ≡ compressed s mid → v ≡ hashed (length cut / 64) u cut
-        → row ≡ over mid 0 (take (length cut - length cut / 64 * 64) (drop (length cut / 64 * 64) cut))
-        → progress (after v row) ≡ added (progress was) bytes
-    add_whole u v mid row m f e r =
-        let here : cut ≡ left = take_rest bytes (64 - count % 64) in
-        let all : 64 - count % 64 - 0 ≡ 64 - count % 64 = omega arith in
+    pub add_whole : (u v : Words) (filling rest tail mid row : List ℕ) (blocks : List (List ℕ)) → filling ≡ part → rest ≡ left → mid ≡ over buffer (count % 64) filling
+        → u ≡ compressed s mid → blocks ≡ first_chunks 64 (length rest / 64) rest → v ≡ fold compressed u blocks
+        → tail ≡ drop (length rest / 64 * 64) rest → row ≡ over mid 0 tail → progress (after v row) ≡ added (progress was) bytes
+    add_whole u v filling rest tail mid row blocks p q m f b e t r =
         let done : length left / 64 * 64 ≡ 64 * (length left / 64) = omega arith in
-        add_more v mid row _ (m ∙ rw all) (e ∙ rw (f, here)) refl (r ∙ rw (here, take_rest, done))
+        let hash : v ≡ hashed (length left / 64) (compressed s mid) left
+        = e ∙ ap₂ (fold compressed) f (b ∙ ap (λ xs. first_chunks 64 (length xs / 64) xs) q) ∙ hashed_blocks (length left / 64) (compressed s mid) left in
+        let cut : tail ≡ drop (64 * (length left / 64)) left = t ∙ ap (λ xs. drop (length xs / 64 * 64) xs) q ∙ ap (λ n. drop n left) done in
+        add_more v mid row tail (m ∙ ap (over buffer (count % 64)) p) hash cut r

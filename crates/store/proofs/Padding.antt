@@ -73,16 +73,15 @@ module _ (buffer : List ℕ) (count n : ℕ) (whole : length buffer ≡ 64) (wid
 
   pub last_is : (m : ℕ) (early bs last : List ℕ) → early ≡ over (replicate n 0) 0 (take (count % 64 - 0) buffer)
       → m ≡ count * 8 % 2 ^ 64 → bs ≡ bytes_of m → last ≡ over (set early (count % 64) 128) (end - 8) bs
-      → take (end - 0) last ≡ waiting ++ padding count
+      → take end last ≡ waiting ++ padding count
   unfolding padding
   last_is m early bs last e v b l =
       let all : count % 64 - 0 ≡ count % 64 = omega arith in
-      let up : end - 0 ≡ end = omega arith in
       let here : set early (count % 64) 128 ≡ front ++ replicate (n - (end - 8)) 0 = rw (e, all) (marked waiting (count % 64) n none (n - (end - 8)) length_waiting (omega arith)) in
       let bits : bs ≡ eight (8 * count) = b ∙ eight_is (8 * count) m (v ∙ omega arith) in
       let size : length bs ≡ 8 = ap length bits ∙ length_in_bytes 8 (8 * count) [] in
       let fits : end - 8 + length bs ≤ length (front ++ replicate (n - (end - 8)) 0)
       = simp (length-append, length-replicate) (omega (arith, length_front, length_waiting)) in
-      rw (up, l, here) (take_over (front ++ replicate (n - (end - 8)) 0) (end - 8) bs fits end (omega arith)
+      rw (l, here) (take_over (front ++ replicate (n - (end - 8)) 0) (end - 8) bs fits end (omega arith)
       ∙ ap (λ r. r ++ bs) (take_at front (replicate (n - (end - 8)) 0) (end - 8) length_front)
       ∙ append_assoc waiting (128 ∷ replicate none 0) bs ∙ ap (λ r. waiting ++ 128 ∷ (replicate none 0 ++ r)) bits)

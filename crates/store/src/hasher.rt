@@ -64,18 +64,17 @@ impl Hasher {
         ensures fed { (m : List ℕ) → Fed self.old m → Fed self.new (m ++ bytes.now) }
     {
         let have = (self.count % 64) as usize;
-        let len = bytes.len();
         let room = 64 - have;
-        if len < room {
+        if bytes.len() < room {
             write_at(&mut self.buffer, have, bytes);
         } else {
-            write_at(&mut self.buffer, have, &bytes[0..room]);
-            let rest = &bytes[room..len];
-            self.state = compress_all(compress(self.state, &self.buffer), rest);
-            let done = rest.len() / 64 * 64;
-            write_at(&mut self.buffer, 0, &rest[done..rest.len()]);
+            let (filling, rest) = bytes.split_at(room);
+            write_at(&mut self.buffer, have, filling);
+            let (blocks, left) = rest.as_chunks();
+            self.state = compress_all(compress(self.state, &self.buffer), blocks);
+            write_at(&mut self.buffer, 0, left);
         }
-        self.count = self.count.wrapping_add(len as u64);
+        self.count = self.count.wrapping_add(bytes.len() as u64);
     }
 
     // The sum of all that was added.
@@ -94,7 +93,8 @@ impl Hasher {
             end - 8,
             &self.count.wrapping_mul(8).to_be_bytes(),
         );
-        digest(compress_all(self.state, &last[0..end]))
+        let (blocks, _) = last[..end].as_chunks();
+        digest(compress_all(self.state, blocks))
     }
 }
 

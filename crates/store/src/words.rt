@@ -2,7 +2,7 @@
 ghost use Rattle.std.specs.Prelude.{◌≡◌, ◌+◌, ◌/◌, ◌<◌, ◌≤◌, length, take, drop, fold, slice_index};
 ghost use Rattle.std.specs.List.{zip};
 ghost use Rattle.store.specs.Mixing.{GoesOn};
-ghost use Rattle.store.specs.Sha256.{Ch, Maj, Σ₀, Σ₁, σ₀, σ₁, K, plus, round, word, words_of, extension, schedule, compressed, hashed};
+ghost use Rattle.store.specs.Sha256.{Ch, Maj, Σ₀, Σ₁, σ₀, σ₁, K, plus, round, word, words_of, extension, schedule, compressed};
 
 // The eight words of a hash value, and the eight working variables.
 #[derive(Clone, Copy)]
@@ -249,10 +249,9 @@ pub(crate) fn compress(s: Words, block: &[u8; 64]) -> Words
     s.plus(last_rounds(v, &w))
 }
 
-// The hash value after all the whole blocks of the bytes.
-pub(crate) fn compress_all(s: Words, bytes: &[u8]) -> Words
-    ensures { result ≡ hashed (length bytes.now / 64) s bytes.now }
+// The hash value after blocks.
+pub(crate) fn compress_all(s: Words, blocks: &[[u8; 64]]) -> Words
+    ensures { result ≡ fold compressed s blocks.now }
 {
-    let (blocks, _) = bytes.as_chunks();
     blocks.iter().fold(s, |v, block| compress(v, block))
 }

@@ -16,9 +16,9 @@ returns c =
     let long : c.words_for-words.result ≡ length (words_at commit.bytes from m) = c.words_for-words.ensures ∙ as_many 65535 commit.bytes from m stands in
     let o = commit_of commit (words_at commit.bytes from m) in
     record {
-      answer = answers (commit_fits commit from m) o (11 + c.words_for-words.result) fits (omega arith);
+      answer = answers (commit_fits commit from m) o c.put_object.result fits (omega arith);
       memory =
           lays (commit_fits commit from m) o m c.put_object.new.memory (c.commit_front-front.result ++ take c.words_for-words.result (drop from m)) fits
-          c.put_object.ensures
+          c.put_object.ensures.memory
           (ap₂ (λ f n. f ++ take n (drop from m)) (c.commit_front-front.ensures ∙ ap (λ n. commit_front n commit) long) c.words_for-words.ensures);
     }

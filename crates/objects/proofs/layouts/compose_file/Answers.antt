@@ -15,9 +15,9 @@ returns c =
     let long : c.words_for-words.result ≡ length (words_at bytes from m) = c.words_for-words.ensures ∙ as_many 65535 bytes from m fits in
     let o = file_object sum bytes (words_at bytes from m) in
     record {
-      answer = answers (bytes_stand 65535 bytes from m) o (6 + c.words_for-words.result) fits (omega arith);
+      answer = answers (bytes_stand 65535 bytes from m) o c.put_object.result fits (omega arith);
       memory =
           lays (bytes_stand 65535 bytes from m) o m c.put_object.new.memory
-          (c.heading.result ∷ (64 + bytes) ∷ (sum ++ take c.words_for-words.result (drop from m))) fits c.put_object.ensures
+          (c.heading.result ∷ (64 + bytes) ∷ (sum ++ take c.words_for-words.result (drop from m))) fits c.put_object.ensures.memory
           (ap₂ (λ h n. h ∷ (64 + bytes) ∷ (sum ++ take n (drop from m))) (c.heading.ensures ∙ ap (λ n. heading 1 0 (6 + n)) long) c.words_for-words.ensures);
     }

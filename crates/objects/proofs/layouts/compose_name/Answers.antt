@@ -15,10 +15,10 @@ returns c =
     let long : c.words_for-words.result ≡ length (words_at name.bytes from m) = c.words_for-words.ensures ∙ as_many 65 name.bytes from m stands in
     let o = name_of name (words_at name.bytes from m) in
     record {
-      answer = answers (name_fits name from m) o (6 + c.words_for-words.result) fits (omega arith);
+      answer = answers (name_fits name from m) o c.put_object.result fits (omega arith);
       memory =
           lays (name_fits name from m) o m c.put_object.new.memory
-          (c.heading.result ∷ 128 ∷ name.next ∷ name.commit ∷ name.list ∷ name.bytes ∷ take c.words_for-words.result (drop from m)) fits c.put_object.ensures
+          (c.heading.result ∷ 128 ∷ name.next ∷ name.commit ∷ name.list ∷ name.bytes ∷ take c.words_for-words.result (drop from m)) fits c.put_object.ensures.memory
           (ap₂ (λ h n. h ∷ 128 ∷ name.next ∷ name.commit ∷ name.list ∷ name.bytes ∷ take n (drop from m))
           (c.heading.ensures ∙ ap (λ n. heading 4 2 (6 + n)) long) c.words_for-words.ensures);
     }

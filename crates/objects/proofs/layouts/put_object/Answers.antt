@@ -4,8 +4,8 @@ use Rattle.objects.proofs.OverLaws.{over_before_part}
 use Rattle.objects.proofs.PlanLaws.{put_over}
 use Rattle.objects.proofs.layouts.put_object.Goals as goal
 
-pub returns : goal.returns
-returns c =
+pub returns-clause-memory : goal.returns-clause-memory
+returns-clause-memory c =
     let m = c.args.memory.now in
     let front = c.args.front.now in
     let ws = take c.args.many (drop c.args.from m) in

@@ -3,12 +3,13 @@ use Rattle.std.proofs.lemmas.Bool.{lt-ltb, le-ltb}
 use Rattle.pages.proofs.ListLaws.{pick_true, pick_false}
 use Rattle.objects.specs.Marking.{with_reference}
 use Rattle.objects.specs.Plan.{map_of, plan_end, with_map}
+use Rattle.objects.proofs.MarkLaws.{put_reference}
 use Rattle.objects.proofs.mark.mark_root.Goals as goal
 
 pub returns-then-memory-ge-END : goal.returns-then-memory-ge-END
 returns-then-memory-ge-END c =
     let m = c.args.memory.now in
-    c.mark_reference.ensures
+    put_reference c.args.first c.args.reference m c.mark_reference.new.map c.if-memory-ge-END.true c.mark_reference.ensures
     ∙ sym (pick_false (ltb (length m) plan_end) m (with_map (with_reference c.args.first c.args.reference (map_of m)) m) (le-ltb (length m) plan_end c.if-memory-ge-END.true))
 
 pub returns-else-memory-ge-END : goal.returns-else-memory-ge-END

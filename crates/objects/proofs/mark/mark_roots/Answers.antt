@@ -1,7 +1,7 @@
-use Rattle.std.proofs.Common.{get_or, take, sym, ap, ◌∙◌, arith}
+use Rattle.std.proofs.Common.{◌≡◌, get_or, take, sym, ap, ◌∙◌, arith}
 use Rattle.std.proofs.lemmas.List.{take_all, take_more}
-use Rattle.objects.specs.Marking.{rooted, roots_marked}
-use Rattle.objects.proofs.MarkLaws.{roots_none, roots_more}
+use Rattle.objects.specs.Marking.{rooted}
+use Rattle.objects.proofs.MarkLaws.{roots_long, roots_marked, roots_more, roots_none, roots_short}
 use Rattle.objects.proofs.mark.mark_roots.Goals as goal
 
 pub loop-reference-init : goal.loop-reference-init
@@ -17,6 +17,8 @@ loop-reference-preserved c = λ m e.
 
 pub returns : goal.returns
 returns c =
+    let m = c.args.memory.now in
     let rs = c.args.roots.now in
-    c.loop-reference.invariant c.args.memory.now c.unmark.ensures
-    ∙ ap (λ xs. roots_marked c.args.first xs c.args.memory.now) (take_all c.loop-reference.reference-index rs (omega arith))
+    let all : c.loop-reference.memory ≡ roots_marked c.args.first rs m =
+    c.loop-reference.invariant m c.unmark.ensures ∙ ap (λ xs. roots_marked c.args.first xs m) (take_all c.loop-reference.reference-index rs (omega arith)) in
+    record { marked = λ h. all ∙ roots_long c.args.first rs m h; short = λ h. all ∙ roots_short c.args.first rs m h }

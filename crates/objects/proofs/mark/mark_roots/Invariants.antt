@@ -1,5 +1,6 @@
 use Rattle.std.proofs.Common.{◌≡◌, ℕ, List, take}
-use Rattle.objects.specs.Marking.{roots_marked, unmarked}
+use Rattle.objects.specs.Marking.{unmarked}
+use Rattle.objects.proofs.MarkLaws.{roots_marked}
 use Rattle.objects.proofs.mark.mark_roots.Given as goal
 
 abbrev pub invariant-loop-reference : goal.invariant-loop-reference

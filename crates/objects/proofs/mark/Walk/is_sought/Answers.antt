@@ -1,4 +1,4 @@
-use Rattle.std.proofs.Common.{◌≡◌, ◌+◌, ◌-◌, min, ◌&&◌, get_or, take, drop, sym, ap, ◌∙◌, arith}
+use Rattle.std.proofs.Common.{◌≡◌, ◌+◌, ◌-◌, ◌&&◌, get_or, take, drop, sym, ap, ◌∙◌, arith}
 use Rattle.std.proofs.lemmas.Slice.Eq.{slice_eq-Decides}
 use Rattle.std.proofs.lemmas.Bool.{eq-eqb}
 use Rattle.pages.specs.Lists.{same}
@@ -12,11 +12,11 @@ pub returns-then-kind_in-self : goal.returns-then-kind_in-self
 returns-then-kind_in-self c =
     let m = c.args.memory.now in
     let w = c.args.self.now in
-    let n = c.min.result in
+    let n = c.references_met-at.result in
     let four : 2 + n + 4 - (2 + n) ≡ 4 = omega arith in
     let d = slice_eq-Decides Decides-eqb _ c.as_slice.result.now _ c.eq.ensures in
     let part : take (2 + n + 4 - (2 + n)) (drop (2 + n) m) ≡ key_met m =
-    ap (λ k. take k (drop (2 + n) m)) four ∙ ap (λ k. take 4 (drop (2 + k) m)) (c.min.ensures ∙ ap (λ x. min x 4096) c.references_in.ensures)
+    ap (λ k. take k (drop (2 + n) m)) four ∙ ap (λ k. take 4 (drop (2 + k) m)) c.references_met-at.ensures
     in
     let key = key_words w.key in
     let words : c.as_slice.result.now ≡ key = c.as_slice.ensures ∙ c.words-key.ensures in
