@@ -4,7 +4,8 @@ use Rattle.std.proofs.lemmas.Bool.{false≢true}
 use Rattle.pages.specs.Lists.{every, zeros}
 use Rattle.pages.specs.Words.{small}
 use Rattle.pages.specs.Engine.{engine, Lawful}
-use Rattle.pages.specs.Machine.{capped}
+use Rattle.pages.specs.Machine.{capped, ending}
+use Rattle.pages.specs.declared.machine.Request.TheVariants.{Refuse}
 use Rattle.pages.specs.Device.{blank}
 use Rattle.pages.specs.Tape.{last_page, Tied, finishes}
 use Rattle.pages.proofs.WordLaws.{small_from, small_get_or, small_zeros, length_zeros}
@@ -64,6 +65,10 @@ module _ (s : Setting) (n : ℕ) (none : s.known ≡ nothing) where
   refused w c text (Some a) said_a ls other_up = inr (inl (a, said_a, ap (λ (k : Command → Bool). k a) none, refl, refl, refl))
   refused w c text None no-command ls other_up = inr (inr (λ a said_a. absurd (no-command a said_a.0 said_a.1), refl, refl, refl))
 
+  refuses : (o : Option Command) → Refuse (refusal_of o) ≡ ending (refusal_of o)
+  refuses (Some c) = refl
+  refuses None = refl
+
   below : (o : Option Command) → refusal_of o < 1000
   below (Some c) = omega arith
   below None = omega arith
@@ -91,7 +96,7 @@ module _ (s : Setting) (n : ℕ) (none : s.known ≡ nothing) where
               after = w;
               allowed = refused w c text (parsed text) (answered text);
               does =
-                  finishes (house_client.program.hears k m text) h t (last_page h) [] (refusal_of (parsed text)) refl (below (parsed text))
+                  finishes (house_client.program.hears k m text) h t (last_page h) [] (refusal_of (parsed text)) (refuses (parsed text)) (below (parsed text))
                   (refl, refl, tt, tt);
             };
       }

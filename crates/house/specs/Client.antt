@@ -4,7 +4,7 @@ use Rattle.std.specs.Prelude.{ℕ, List, ◌∷◌, Some, None, Option, slice_in
 use Rattle.pages.specs.Lists.{zeros}
 use Rattle.pages.specs.Machine.{Asked, asked, program, capped}
 use Rattle.pages.specs.Engine.{Housed, housed}
-use Rattle.pages.specs.declared.machine.Request.TheVariants.{Finish}
+use Rattle.pages.specs.declared.machine.Request.TheVariants.{Refuse}
 use Rattle.commands.specs.Command.{Command}
 use Rattle.commands.specs.Parse.{parsed}
 use Rattle.house.specs.declared.client.Registers.{Registers}
@@ -21,11 +21,11 @@ refusal_of (Some c) = 2
 refusal_of None = 1
 
 abbrev pub house_hears : Registers → List ℕ → List ℕ → Asked Registers
-house_hears k m text = asked k m (Finish (refusal_of (parsed text)))
+house_hears k m text = asked k m (Refuse (refusal_of (parsed text)))
 
 -- it asks for nothing but the end, so this never comes
 abbrev pub house_resumes : Registers → List ℕ → Asked Registers
-house_resumes k m = asked k m (Finish 2)
+house_resumes k m = asked k m (Refuse 2)
 
 abbrev pub house_loads : List ℕ → Registers
 house_loads cs = registers (slice_index cs 0) (slice_index cs 1) (slice_index cs 2)

@@ -1,11 +1,11 @@
 // The house as a client of the tape.
-ghost use Rattle.house.specs.Client.{house_wakes, house_hears, house_resumes, house_loads, house_saves};
+ghost use Rattle.house.specs.Client.{house_client};
 
 use commands::parse;
 use pages::machine::{Client, Request};
 
 // What a house keeps in memory from one command to the next.
-#[derive(Clone, Copy)]
+#[derive(Clone, Copy, Debug, PartialEq, Eq)]
 pub struct Registers {
     // The house's number, how many houses there are, how many pages it has.
     pub house: u64,
@@ -14,21 +14,14 @@ pub struct Registers {
 }
 
 impl Client for Registers {
-    ghost wakes = { house_wakes };
-
-    ghost hears = { house_hears };
-
-    ghost resumes = { house_resumes };
-
-    ghost loads = { house_loads };
-
-    ghost saves = { house_saves };
+    ghost housed = { house_client };
 
     fn load(cells: &[u64; 120]) -> Registers {
+        let [house, houses, pages, ..] = *cells;
         Registers {
-            house: cells[0],
-            houses: cells[1],
-            pages: cells[2],
+            house,
+            houses,
+            pages,
         }
     }
 
@@ -41,19 +34,21 @@ impl Client for Registers {
     }
 
     fn wake(&mut self, house: u64, houses: u64, pages: u64) {
-        self.house = house;
-        self.houses = houses;
-        self.pages = pages;
+        *self = Registers {
+            house,
+            houses,
+            pages,
+        };
     }
 
     fn hear(&mut self, memory: &mut [u64], text: &[u8]) -> Request {
         let Some(_) = parse(text) else {
-            return Request::Finish { reply: 1 };
+            return Request::Refuse { number: 1 };
         };
-        Request::Finish { reply: 2 }
+        Request::Refuse { number: 2 }
     }
 
     fn resume(&mut self, memory: &mut [u64]) -> Request {
-        Request::Finish { reply: 2 }
+        Request::Refuse { number: 2 }
     }
 }

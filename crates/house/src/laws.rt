@@ -4,50 +4,36 @@ ghost use Rattle.house.specs.Facts.{StaysFine};
 ghost use Rattle.house.specs.Morning.{Morning};
 
 // What is done at one house changes no other, and the book only grows.
-pub fn houses_are_apart() -> u8
+pub fn houses_are_apart()
     ensures { Apart }
-{
-    0
-}
+{}
 
 // What a house can reach has each commit once.
-pub fn reached_once() -> u8
+pub fn reached_once()
     ensures { ReachOnce }
-{
-    0
-}
+{}
 
 // What a house has to keep depends on what it can reach and has in work, and on no order.
-pub fn weighs_what_it_reaches() -> u8
+pub fn weighs_what_it_reaches()
     ensures { WeightByReach }
-{
-    0
-}
+{}
 
 // What a house can reach and has to keep stays as it is when the book grows.
-pub fn weight_stays() -> u8
+pub fn weight_stays()
     ensures { WeightStays }
-{
-    0
-}
+{}
 
 // Houses are fine at the start, and every turn of a command that fits keeps them so.
-pub fn houses_stay_fine() -> u8
+pub fn houses_stay_fine()
     ensures { StaysFine }
-{
-    0
-}
+{}
 
 // Commits of a chain, carried onto a commit that changed other paths, come to what joining gives.
-pub fn carried_is_joined() -> u8
+pub fn carried_is_joined()
     ensures { CarriedJoined }
-{
-    0
-}
+{}
 
 // A morning at two houses: each command shows what it is told to, or is refused by its number; and what the houses then have to keep.
-pub fn morning_goes_as_told() -> u8
+pub fn morning_goes_as_told()
     ensures { Morning }
-{
-    0
-}
+{}

@@ -9,11 +9,9 @@ ghost use Rattle.pages.specs.Run.{World};
 
 // For every sum, up to sixteen houses, all devices and all that can happen: commands in any order, with power lost and found at any act, end as the plain
 // houses end. The house knows no command yet, so each is refused rightly. `step` takes exactly the steps of this engine.
-pub fn keeps_the_promise() -> u8
+pub fn keeps_the_promise()
     ensures { Whole nothing own }
-{
-    0
-}
+{}
 
 // What is said of one house at a time: facts about the plain houses, and what a house holds, by the number of things that may still happen, its number and
 // whether it has power.
@@ -24,8 +22,6 @@ pub trait Relates {
 }
 
 // Obligations about one house at a time give the promise for all houses and all that can happen, for any engine.
-pub fn simulates<R: Relates>(r: &R) -> u8
+pub fn simulates<R: Relates>(r: &R)
     ensures { Simulated (R.fine r.now) (R.holds r.now) }
-{
-    0
-}
+{}

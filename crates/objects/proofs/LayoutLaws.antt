@@ -1,8 +1,8 @@
 -- Files, commits and names as they are put together and read; bytes in words and back. Assumes nothing.
-use Rattle.std.proofs.Common.{◌≡◌, ℕ, zero, suc, ◌+◌, ◌-◌, ◌*◌, ◌<◌, ◌≤◌, min, Bool, true, ◌&&◌, eqb, leb, List, [], ◌∷◌, ◌++◌, length, get_or, take, drop, set, Some, None, sym, refl, ap, ◌∙◌, ap₂, ⊎_elim, arith, length-append, length-drop}
+use Rattle.std.proofs.Common.{◌≡◌, ℕ, zero, suc, ◌+◌, ◌-◌, ◌*◌, ◌<◌, ◌≤◌, min, Bool, true, ◌&&◌, eqb, leb, List, ◌∷◌, ◌++◌, length, take, drop, set, Some, None, sym, refl, ap, ◌∙◌, ap₂, ⊎_elim, arith, length-append, length-drop}
 use borrow.Rule.Slice.PartMut.{post_of}
 use lib.Seq.{take-append-add}
-use Rattle.std.proofs.lemmas.List.{append-nil, drop-append-le, drop_at, drop-take, get_or-drop, length-take-le, take_all, take-append-le, take_at, take_more, take-take}
+use Rattle.std.proofs.lemmas.List.{append-nil, drop-append-le, drop_at, drop-take, length-take-le, take_all, take-append-le, take_at, take-take}
 use Rattle.std.proofs.lemmas.Bool.{and_from, and_parts, cases_lt, eq-eqb, le-leb, leb-true}
 use Rattle.pages.specs.Bytes.{all_bytes, from_bytes}
 use Rattle.pages.specs.Lists.{pick, zeros}
@@ -18,23 +18,6 @@ use Rattle.objects.specs.declared.layouts.Commit.{Commit}
 use Rattle.objects.specs.declared.layouts.Name.{Name}
 use Rattle.objects.specs.declared.mark.Key.{Key}
 use Rattle.objects.proofs.OverLaws.{over_nothing, over_push}
-use Rattle.objects.proofs.PlanLaws.{over_behind}
-
--- COPYING DOWN
-pub copy_more : (from to i : ℕ) (m x : List ℕ) → to ≤ from → from + i < length m → x ≡ over to (take i (drop from m)) m →
-    set x (to + i) (get_or x (from + i) 0) ≡ over to (take (i + 1) (drop from m)) m
-copy_more from to i m x h lo e =
-    ap (set x (to + i)) (ap (λ y. get_or y (from + i) 0) e ∙ over_behind to (from + i) (take i (drop from m)) m (omega (arith, long)) (omega arith))
-    ∙ ap₂ (λ y k. set y k (get_or m (from + i) 0)) e at
-    ∙ over_push to (take i (drop from m)) m (get_or m (from + i) 0) (omega (arith, long))
-    ∙ ap (λ z. over to z m)
-    (ap (λ v. take i (drop from m) ++ v ∷ []) (sym (get_or-drop from m i 0)) ∙ sym (take_more (drop from m) i 0 (omega (arith, length-drop from m))))
-  where
-    long : length (take i (drop from m)) ≡ i
-    long = length-take-le i (drop from m) (omega (arith, length-drop from m))
-
-    at : to + i ≡ to + length (take i (drop from m))
-    at = omega (arith, long)
 
 -- COMPOSING: words that stand behind the buffer are as many as they should be
 pub as_many : (most bytes from : ℕ) (m : List ℕ) → bytes_stand most bytes from m ≡ true → words_for bytes ≡ length (words_at bytes from m)

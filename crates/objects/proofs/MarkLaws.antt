@@ -1,5 +1,5 @@
 -- Marking meets each live object once, and all of them. Assumes nothing.
-use Rattle.std.proofs.Common.{◌≡◌, ℕ, zero, suc, ◌+◌, ◌-◌, ◌*◌, ◌/◌, ◌<◌, ◌≤◌, min, Bool, true, false, ◌&&◌, eqb, ltb, leb, ◌⊎◌, List, [], ◌∷◌, ◌++◌, length, get_or, take, drop, Some, None, Option, sym, refl, ap, ◌∙◌, subst, ap₂, inl, inr, arith, length-drop}
+use Rattle.std.proofs.Common.{◌≡◌, ℕ, zero, suc, ◌+◌, ◌-◌, ◌*◌, ◌<◌, ◌≤◌, min, Bool, true, false, ◌&&◌, eqb, ltb, leb, ◌⊎◌, List, [], ◌∷◌, ◌++◌, length, get_or, take, drop, Some, None, Option, sym, refl, ap, ◌∙◌, subst, ap₂, inl, inr, arith, length-drop}
 use Rattle.std.proofs.lemmas.List.{get_or_append_left, get_or-take, get_or-drop, length-take-le, take_all, take_more}
 use Rattle.std.proofs.lemmas.Bool.{cases_lt, cases_order, both_ways, eq-eqb, lt-ltb, le-ltb, le-leb, ltb-true, leb-true, eqb-true, and_parts, and_from}
 use Rattle.pages.specs.Lists.{pick, every, has, same, zeros, added_up}
@@ -15,10 +15,10 @@ use Rattle.pages.proofs.WordLaws.{length_over, length_zeros, small_zeros}
 use Rattle.store.specs.Bitmap.{bit, with_bit, with_run, highest, HighestIs}
 use Rattle.objects.specs.Plan.{map_at, map_words, plan_end, map_of, with_map}
 use Rattle.objects.specs.Heap.{Live, root, named, Placed, Heap, rising, units, heading_at, units_at, keyed, has_key, covered, weights}
-use Rattle.objects.specs.Marking.{glance, walk, stride, with_reference, with_references, run_from, begun, unmarked, rooted, references_met, key_met, key_words, found_now, map_met, met_walk, met_memory, sought_at, sought, went_on, walked, Walks, Keeps, Marked, Marks}
+use Rattle.objects.specs.Marking.{glance, walk, stride, with_reference, with_references, run_from, begun, unmarked, rooted, roots_marked, references_met, key_met, key_words, found_now, map_met, met_walk, met_memory, sought_at, sought, went_on, walked, Walks, Keeps, Marked, Marks}
 use Rattle.objects.specs.declared.mark.Key.{Key}
 use Rattle.objects.specs.declared.mark.Walk.{Walk}
-use Rattle.store.proofs.BitLaws.{get_or_zeros, bits_set, set_here, run_set, small_with_bit, small_with_run, zero_word, finds}
+use Rattle.store.proofs.BitLaws.{all_clear, bits_set, set_here, run_set, small_with_bit, small_with_run, finds}
 use Rattle.objects.proofs.PlanLaws.{
   part_of_front,
   part_of_append,
@@ -35,9 +35,6 @@ use Rattle.objects.proofs.PlanLaws.{
 }
 
 -- THE MAP'S BITS
-no_bits : (n v : ℕ) → bit (zeros n) v ≡ false
-no_bits n v = zero_word (zeros n) (v / 64) v (get_or_zeros n (v / 64)) refl
-
 -- a bit that is set stays, whatever bit is set
 bit_stays : (ws : List ℕ) (u v : ℕ) → bit ws v ≡ true → bit (with_bit ws u) v ≡ true
 bit_stays ws u v h = (bits_set ws u v).0 ∙ or_right (eqb u v && ltb u (64 * length ws)) (bit ws v) h
@@ -475,7 +472,7 @@ at_start t roots m lo below kind key heap cap long =
       where
         go : (has roots (lo + u + 1) ≡ true) ⊎ (bit (zeros map_words) u ≡ true) → Live t roots (lo + u + 1)
         go (inl e) = root (lo + u + 1) (omega arith) e
-        go (inr e) = absurd (both_ways (bit (zeros map_words) u) (no_bits map_words u) e)
+        go (inr e) = absurd (both_ways (bit (zeros map_words) u) (all_clear map_words u) e)
 
     inside : (r : ℕ) → Live t roots r → (lo < r) × (r ≤ lo + below)
     inside r x = let q : Placed t lo (lo + below) r = heap.placed r x in (q.above, omega (arith, q.within, q.whole))
@@ -660,39 +657,23 @@ begun_more first r rs m h =
     l = length_with_references first rs (zeros map_words) ∙ length_zeros map_words
 
 -- and from the head in its place, so many of its roots
-blank_again : (m : List ℕ) → plan_end ≤ length m → with_map (zeros map_words) (unmarked m) ≡ with_map (zeros map_words) m
-blank_again m h =
-    ap (with_map (zeros map_words)) (pick_false (ltb (length m) plan_end) m (with_map (zeros map_words) m) (le-ltb (length m) plan_end h))
-    ∙ with_map_again (zeros map_words) (zeros map_words) m (length_zeros map_words) (length_zeros map_words) h
-
-pub roots_none : (first : ℕ) (m x : List ℕ) → plan_end ≤ length m → x ≡ unmarked m → x ≡ begun first [] x
+-- roots marked one by one, in a memory of any length
+pub roots_none : (first : ℕ) (m : List ℕ) → unmarked m ≡ roots_marked first [] m
 unfolding with_references
-roots_none first m x h e =
-    e ∙ begun_none first m h ∙ sym (blank_again m h) ∙ ap (with_map (zeros map_words)) (sym e)
+roots_none first m = refl
 
-pub roots_more : (first i : ℕ) (m x : List ℕ) → plan_end ≤ length m → i < 8 → x ≡ begun first (take i (drop 41154 m)) m →
-    rooted first (get_or x (i + 41154) 0) x ≡ begun first (take (i + 1) (drop 41154 m)) m
-roots_more first i m x h lo e =
-    ap₂ (λ r y. rooted first r y) (ap (λ y. get_or y (i + 41154) 0) e ∙ before_map ws m (i + 41154) (omega arith) h ∙ there) e
-    ∙ begun_more first (get_or (drop 41154 m) i 0) (take i (drop 41154 m)) m h
-    ∙ ap (λ rs. begun first rs m) (sym (take_more (drop 41154 m) i 0 (omega (arith, length-drop 41154 m))))
+pub roots_long : (first : ℕ) (rs m : List ℕ) → plan_end ≤ length m → roots_marked first rs m ≡ begun first rs m
+roots_long first rs m h = pick_false (ltb (length m) plan_end) m (begun first rs m) (le-ltb (length m) plan_end h)
+
+pub roots_more : (first r : ℕ) (rs m : List ℕ) → rooted first r (roots_marked first rs m) ≡ roots_marked first (rs ++ r ∷ []) m
+roots_more first r rs m = go (cases_lt (length m) plan_end)
   where
-    ws : List ℕ
-    ws = with_references first (take i (drop 41154 m)) (zeros map_words)
-
-    turned : i + 41154 ≡ 41154 + i
-    turned = omega arith
-
-    there : get_or m (i + 41154) 0 ≡ get_or (drop 41154 m) i 0
-    there = ap (λ k. get_or m k 0) turned ∙ sym (get_or-drop 41154 m i 0)
-
-pub roots_all : (first : ℕ) (m x : List ℕ) → plan_end ≤ length m → x ≡ unmarked m →
-    begun first (take 8 (drop 41154 x)) x ≡ begun first (take 8 (drop 41154 m)) m
-roots_all first m x h e =
-    ap (λ y. begun first (take 8 (drop 41154 y)) y) (e ∙ pick_false (ltb (length m) plan_end) m (with_map (zeros map_words) m) (le-ltb (length m) plan_end h))
-    ∙ ap (λ rs. begun first rs (with_map (zeros map_words) m)) (part_before_map 8 41154 (zeros map_words) m (omega arith) h)
-    ∙ with_map_again (zeros map_words) (with_references first (take 8 (drop 41154 m)) (zeros map_words)) m (length_zeros map_words)
-    (length_with_references first (take 8 (drop 41154 m)) (zeros map_words) ∙ length_zeros map_words) h
+    go : (length m < plan_end) ⊎ (plan_end ≤ length m) → rooted first r (roots_marked first rs m) ≡ roots_marked first (rs ++ r ∷ []) m
+    go (inl h) =
+        ap (rooted first r) (pick_true (ltb (length m) plan_end) m (begun first rs m) (lt-ltb (length m) plan_end h))
+        ∙ pick_true (ltb (length m) plan_end) m (with_map (with_reference first r (map_of m)) m) (lt-ltb (length m) plan_end h)
+        ∙ sym (pick_true (ltb (length m) plan_end) m (begun first (rs ++ r ∷ []) m) (lt-ltb (length m) plan_end h))
+    go (inr h) = ap (rooted first r) (roots_long first rs m h) ∙ begun_more first r rs m h ∙ sym (roots_long first (rs ++ r ∷ []) m h)
 
 -- what is looked for came, or it did not
 pub found_here : (w : Walk) (m : List ℕ) (b : Bool) → b ≡ (eqb (kind_in (get_or m 0 0)) w.kind && same (key_met m) (key_words w.key)) → b ≡ true →

@@ -1,56 +1,18 @@
 -- What the code of packing and renaming leaves, step by step. Assumes nothing.
-use Rattle.std.proofs.Common.{◌≡◌, ℕ, suc, ◌+◌, ◌-◌, ◌*◌, ◌/◌, ◌<◌, ◌≤◌, min, ltb, List, [], ◌∷◌, ◌++◌, length, get_or, take, drop, set, sym, refl, ap, ◌∙◌, ap₂, arith, length-drop}
-use Rattle.std.proofs.lemmas.List.{drop-drop, drop_more, get_or-drop, length-take-le, take_more}
+use Rattle.std.proofs.Common.{◌≡◌, ℕ, ◌+◌, ◌-◌, ◌*◌, ◌/◌, ◌<◌, ◌≤◌, min, ltb, List, [], ◌∷◌, ◌++◌, length, get_or, take, drop, set, sym, refl, ap, ◌∙◌, ap₂, arith, length-drop}
+use Rattle.std.proofs.lemmas.List.{drop-drop, get_or-drop, length-take-le, take_more}
 use Rattle.std.proofs.lemmas.Bool.{lt-ltb, le-ltb}
 use Rattle.pages.specs.Lists.{each, pick, zeros}
 use Rattle.pages.specs.Machine.{capped}
 use Rattle.pages.specs.Words.{over}
 use Rattle.pages.proofs.ListLaws.{each_append, length_each, pick_true, pick_false}
-use Rattle.pages.proofs.WordLaws.{length_over, length_zeros, zeros_append}
+use Rattle.pages.proofs.WordLaws.{length_over}
 use Rattle.objects.specs.Packing.{filled, gathered, kept_back, packed, pages_in, pages_packed}
 use Rattle.objects.specs.Plan.{counts_of, counts_words, head_at, map_at, map_of, map_units, map_words, plan_end, rest_at}
 use Rattle.objects.specs.Ranks.{ranked, ranked_by}
 use Rattle.objects.specs.Sweeping.{new_head, new_name, renaming}
-use Rattle.objects.proofs.OverLaws.{over_after, over_before_part, over_front, over_nothing, over_push}
-use Rattle.objects.proofs.PlanLaws.{over_before, over_behind, over_drop}
-
--- MOVING UP
-abbrev pub moved : ℕ → ℕ → ℕ → List ℕ → List ℕ
-moved by words i m = over (i + by) (take (words - i) (drop i m)) m
-
-pub moved_none : (by words : ℕ) (m : List ℕ) → by + words ≤ length m → m ≡ moved by words words m
-moved_none by words m h = sym (ap (λ k. over (words + by) (take k (drop words m)) m) e ∙ over_nothing (words + by) m (omega arith))
-  where
-    e : words - words ≡ 0
-    e = omega arith
-
-pub moved_more : (by words j : ℕ) (m x : List ℕ) → by + words ≤ length m → j < words → x ≡ moved by words (j + 1) m →
-    set x (j + by) (get_or x j 0) ≡ moved by words j m
-moved_more by words j m x h lo e =
-    ap₂ (λ y w. set y (j + by) w) here (ap (λ y. get_or y j 0) here ∙ over_before (j + by + 1) j new m (omega arith) (omega arith))
-    ∙ over_front (j + by) new m (get_or m j 0) (omega arith)
-    ∙ ap (λ z. over (j + by) z m) (sym (ap (take (words - j)) (drop_more m j 0 (omega arith)) ∙ ap (λ k. take k (get_or m j 0 ∷ drop (j + 1) m)) one))
-  where
-    new : List ℕ
-    new = take (words - (j + 1)) (drop (j + 1) m)
-
-    at : j + 1 + by ≡ j + by + 1
-    at = omega arith
-
-    here : x ≡ over (j + by + 1) (take (words - (j + 1)) (drop (j + 1) m)) m
-    here = e ∙ ap (λ k. over k (take (words - (j + 1)) (drop (j + 1) m)) m) at
-
-    one : words - j ≡ suc (words - (j + 1))
-    one = omega arith
-
-pub moved_all : (by words : ℕ) (m : List ℕ) → moved by words 0 m ≡ over by (take words m) m
-moved_all by words m = ap₂ (λ g k. over g (take k m) m) e f
-  where
-    e : 0 + by ≡ by
-    e = omega arith
-
-    f : words - 0 ≡ words
-    f = omega arith
+use Rattle.objects.proofs.OverLaws.{over_after, over_before_part, over_nothing, over_push}
+use Rattle.objects.proofs.PlanLaws.{over_behind, over_drop}
 
 -- PACKING: a memory that is too short is left alone
 pub packed_short : (waiting words : ℕ) (m : List ℕ) → length m < plan_end → packed waiting words m ≡ m
@@ -95,25 +57,6 @@ pub filled_short : (waiting : ℕ) (m : List ℕ) → length m < plan_end → fi
 unfolding filled
 filled_short waiting m h =
     pick_true (ltb (length m) plan_end) m (over 0 (take (min waiting 63) (drop rest_at m) ++ zeros (64 - min waiting 63)) m) (lt-ltb (length m) plan_end h)
-
-pub fill_none : (w : ℕ) (m : List ℕ) → w ≤ length m → m ≡ over w (zeros (w - w)) m
-unfolding zeros
-fill_none w m h = sym (ap (λ k. over w (zeros k) m) e ∙ over_nothing w m h)
-  where
-    e : w - w ≡ 0
-    e = omega arith
-
-pub fill_more : (w i : ℕ) (m x : List ℕ) → w ≤ i → i < length m → x ≡ over w (zeros (i - w)) m → set x i 0 ≡ over w (zeros (i + 1 - w)) m
-unfolding zeros
-fill_more w i m x lo hi e =
-    ap₂ (λ y k. set y k 0) e at ∙ over_push w (zeros (i - w)) m 0 (omega (arith, length_zeros (i - w)))
-    ∙ ap (λ z. over w z m) (zeros_append (i - w) 1 ∙ ap zeros more)
-  where
-    at : i ≡ w + length (zeros (i - w))
-    at = omega (arith, length_zeros (i - w))
-
-    more : i - w + 1 ≡ i + 1 - w
-    more = omega arith
 
 pub filled_is : (waiting w : ℕ) (m : List ℕ) → plan_end ≤ length m → w ≡ min waiting 63 →
     over w (zeros (64 - w)) (over 0 (take w (drop rest_at m)) m) ≡ filled waiting m
@@ -185,10 +128,10 @@ renamed_more first from at i m x h lo hi e =
         ∙ ap (λ v. take (i - at) (drop at m) ++ v ∷ []) (get_or-drop at m (i - at) 0 ∙ ap (λ k. get_or m k 0) here)
 
 -- THE NEW HEAD
-pub two_set : (h : List ℕ) (a b : ℕ) → 2 ≤ length h → set (set h 0 a) 1 b ≡ a ∷ b ∷ drop 2 h
-two_set [] a b l = absurd (omega arith)
-two_set (x ∷ []) a b l = absurd (omega arith)
-two_set (x ∷ y ∷ h) a b l = refl
+pub two_set : (h m : List ℕ) (a b : ℕ) → 2 ≤ length h → set (set (over 0 h m) 0 a) 1 b ≡ over 0 (a ∷ b ∷ drop 2 h) m
+two_set [] m a b l = absurd (omega arith)
+two_set (x ∷ []) m a b l = absurd (omega arith)
+two_set (x ∷ y ∷ h) m a b l = refl
 
 pub new_head_is : (first from page : ℕ) (m h x y : List ℕ) → h ≡ take 32 (drop head_at m) → x ≡ over 0 (from ∷ page ∷ drop 2 h) m → y ≡ renaming first from 2 8 x →
     y ≡ new_head first from page m

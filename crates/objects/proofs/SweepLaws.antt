@@ -248,8 +248,8 @@ marking_is : {K : Type 0} (put : Sweep → K) (back : Sweep → List ℕ → Ask
 marking_is put back last s = go s.request
   where
     go : (o : Option Request) →
-        swung put back (elim o [ None ↦ counted s.walk last s.memory | Some q ↦ swing (sweep Marking s.walk 0 last last 0) s.memory (Some q) ])
-        ≡ walked (λ w. put (sweep Marking w 0 last last 0)) (λ w m. swung put back (counted w last m)) (stride s.walk s.memory o)
+        swung put back (elim o [ None ↦ counted s.state last s.memory | Some q ↦ swing (sweep Marking s.state 0 last last 0) s.memory (Some q) ])
+        ≡ walked (λ w. put (sweep Marking w 0 last last 0)) (λ w m. swung put back (counted w last m)) (stride s.state s.memory o)
     go None = refl
     go (Some q) = refl
 

@@ -37,17 +37,17 @@ laying_some w at from page waiting m pages h =
     (ne_eqb pages 0 h))
 
 -- an object came: what the code reads off it, and what it leaves
-pub copied_came : (s : Sweep) (m : List ℕ) (size many : ℕ) (names x : List ℕ) (pages at one two : ℕ) → plan_end ≤ length m → size ≡ size_in (get_or m 0 0) →
+pub copied_came : (s : Sweep) (m : List ℕ) (n many : ℕ) (names x : List ℕ) (pages at one two : ℕ) → plan_end ≤ length m → n ≡ units (size_in (get_or m 0 0)) →
     many ≡ min (references_in (get_or m 0 0)) 4096 → names ≡ renaming s.walk.first s.from 2 many m → length names ≡ length m →
-    x ≡ packed s.waiting (8 * units size) names → pages ≡ pages_packed s.waiting (8 * units size) names → at ≡ capped (s.at + units size) →
-    one ≡ min s.waiting 63 → two ≡ min (8 * units size) 41024 → laying s.walk at s.from s.page ((one + two) % 64) x pages ≡ copied s m
-copied_came s m size many names x pages at one two h e refs renamed l packs lays moved a b =
-    ap₂ (λ i j. laying s.walk i s.from s.page j x pages) (moved ∙ ap (λ n. capped (s.at + units n)) e)
-    (ap₂ (λ i j. (i + j) % 64) a (b ∙ ap (λ n. min (8 * units n) 41024) e))
+    x ≡ packed s.waiting (8 * n) names → pages ≡ pages_packed s.waiting (8 * n) names → at ≡ capped (s.at + n) →
+    one ≡ min s.waiting 63 → two ≡ min (8 * n) 41024 → laying s.walk at s.from s.page ((one + two) % 64) x pages ≡ copied s m
+copied_came s m n many names x pages at one two h e refs renamed l packs lays moved a b =
+    ap₂ (λ i j. laying s.walk i s.from s.page j x pages) (moved ∙ ap (λ k. capped (s.at + k)) e)
+    (ap₂ (λ i j. (i + j) % 64) a (b ∙ ap (λ k. min (8 * k) 41024) e))
     ∙ ap₂ (laying s.walk (capped (s.at + units (size_in (get_or m 0 0)))) s.from s.page ((min s.waiting 63 + min (words_came m) 41024) % 64))
-    (packs ∙ ap₂ (λ n y. packed s.waiting (8 * units n) y) e (renamed ∙ ap (λ n. renaming s.walk.first s.from 2 n m) refs))
-    (lays ∙ pages_packed_is s.waiting (8 * units size) names (omega arith) ∙ sym (pages_packed_is s.waiting (8 * units size) m h)
-    ∙ ap (λ n. pages_packed s.waiting (8 * units n) m) e)
+    (packs ∙ ap₂ (λ k y. packed s.waiting (8 * k) y) e (renamed ∙ ap (λ k. renaming s.walk.first s.from 2 k m) refs))
+    (lays ∙ pages_packed_is s.waiting (8 * n) names (omega arith) ∙ sym (pages_packed_is s.waiting (8 * n) m h)
+    ∙ ap (λ k. pages_packed s.waiting (8 * k) m) e)
 
 -- a memory that is too short is left alone
 pub begun_short : (s : Sweep) (m : List ℕ) → length m < plan_end → swing s m None ≡ sweep_begun s m

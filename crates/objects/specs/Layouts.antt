@@ -10,6 +10,14 @@ use Rattle.objects.specs.Plan.{plan_end, rest_at}
 use Rattle.objects.specs.declared.mark.Key.{Key}
 use Rattle.objects.specs.declared.layouts.Commit.{Commit}
 use Rattle.objects.specs.declared.layouts.Name.{Name}
+use Rattle.objects.specs.declared.layouts.Kind.{Kind}
+use Rattle.objects.specs.declared.layouts.Kind.TheVariants.{File, Commit as ACommit, Name as AName}
+
+-- the kinds that are laid here, by their numbers
+abbrev pub kind_number : Kind → ℕ
+kind_number File = 1
+kind_number ACommit = 3
+kind_number AName = 4
 
 abbrev pub words_for : ℕ → ℕ
 words_for bytes = (bytes + 7) / 8

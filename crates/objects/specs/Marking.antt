@@ -30,14 +30,17 @@ key_words k = k.a ∷ k.b ∷ k.c ∷ k.d ∷ []
 abbrev pub walk : ℕ → ℕ → ℕ → ℕ → Key → ℕ → Walk
 walk first below weight kind sought found = record { first = first; below = below; weight = weight; kind = kind; key = sought; found = found }
 
--- a walk's state, memory, and what is asked for: none when all is met
-pub record Stride : Type 0 where
-  pub walk : Walk
+-- what goes on in a client: its state, memory, and what is asked for: none when it is done
+pub record Turn (S : Type 0) : Type 0 where
+  pub state : S
   pub memory : List ℕ
   pub request : Option Request
 
+abbrev pub Stride : Type 0
+Stride = Turn Walk
+
 abbrev pub stride : Walk → List ℕ → Option Request → Stride
-stride w m q = record { walk = w; memory = m; request = q }
+stride w m q = record { state = w; memory = m; request = q }
 
 -- the bit of a reference, if it is one into the window
 abbrev pub with_reference : ℕ → ℕ → List ℕ → List ℕ
@@ -61,6 +64,9 @@ unmarked m = pick (nat_lt (length m) plan_end) m (with_map (zeros map_words) m)
 
 abbrev pub rooted : ℕ → ℕ → List ℕ → List ℕ
 rooted first r m = pick (nat_lt (length m) plan_end) m (with_map (with_reference first r (map_of m)) m)
+
+abbrev pub roots_marked : ℕ → List ℕ → List ℕ → List ℕ
+roots_marked first roots m = pick (nat_lt (length m) plan_end) m (begun first roots m)
 
 -- the object that came is met
 abbrev pub references_met : List ℕ → List ℕ
@@ -95,12 +101,12 @@ unfoldable pub went_on : Walk → List ℕ → Stride
 went_on w m = pick (nat_lt (length m) plan_end) (stride w m None) (sought (met_walk w m) (met_memory w m))
 
 -- IN A CLIENT: while it walks, `put` holds the walk in its registers; when all is met it goes on by `back`
-abbrev pub asked_on : {K : Type 0} → (Walk → K) → (Walk → List ℕ → Asked K) → Walk → List ℕ → Option Request → Asked K
-asked_on put back w m None = back w m
-asked_on put back w m (Some q) = asked (put w) m q
+abbrev pub asked_on : {S K : Type 0} → (S → K) → (S → List ℕ → Asked K) → S → List ℕ → Option Request → Asked K
+asked_on put back s m None = back s m
+asked_on put back s m (Some q) = asked (put s) m q
 
 abbrev pub walked : {K : Type 0} → (Walk → K) → (Walk → List ℕ → Asked K) → Stride → Asked K
-walked put back s = asked_on put back s.walk s.memory s.request
+walked put back s = asked_on put back s.state s.memory s.request
 
 abbrev pub Walks : {K : Type 0} → Program K → (Walk → K) → (Walk → List ℕ → Asked K) → Type 0
 Walks p put back = (w : Walk) (m : List ℕ) → length m ≡ bulk_cells → p.resumes (put w) m ≡ walked put back (went_on w m)

@@ -6,7 +6,7 @@ use Rattle.pages.specs.Lists.{pick, each, added_up}
 use Rattle.pages.specs.Words.{over}
 use Rattle.pages.specs.Crash.{Rows}
 use Rattle.pages.specs.Engine.{bulk_cells}
-use Rattle.pages.specs.Machine.{Asked, asked, Program, capped, buffer_words}
+use Rattle.pages.specs.Machine.{Asked, Program, capped, buffer_words}
 use Rattle.pages.specs.Object.{size_in, references_in, references_of, data_of, object_at}
 use Rattle.pages.specs.Tape.{first_page, last_page, Window, Does}
 use Rattle.pages.specs.declared.machine.Request.{Request}
@@ -16,7 +16,7 @@ use Rattle.objects.specs.Ranks.{ranked, tallied}
 use Rattle.objects.specs.Plan.{map_of, head_at, plan_end}
 use Rattle.objects.specs.Heap.{Live, Heap, Lives, units, units_at}
 use Rattle.objects.specs.Packing.{packed, pages_packed, filled}
-use Rattle.objects.specs.Marking.{Stride, key, walk, begun, sought, went_on}
+use Rattle.objects.specs.Marking.{Turn, Stride, asked_on, key, walk, begun, sought, went_on}
 use Rattle.objects.specs.declared.mark.Walk.{Walk}
 use Rattle.objects.specs.declared.sweep.Sweep.{Sweep}
 use Rattle.objects.specs.declared.sweep.Stage.{Stage}
@@ -42,13 +42,11 @@ abbrev pub sweep : Stage → Walk → ℕ → ℕ → ℕ → ℕ → Sweep
 sweep g w at from page waiting = record { stage = g; walk = w; at = at; from = from; page = page; waiting = waiting }
 
 -- a sweep's state, memory, and what is asked for: none when it is done
-pub record Swing : Type 0 where
-  pub sweep : Sweep
-  pub memory : List ℕ
-  pub request : Option Request
+abbrev pub Swing : Type 0
+Swing = Turn Sweep
 
 abbrev pub swing : Sweep → List ℕ → Option Request → Swing
-swing s m q = record { sweep = s; memory = m; request = q }
+swing s m q = record { state = s; memory = m; request = q }
 
 -- all is copied: the new head
 abbrev pub new_head : ℕ → ℕ → ℕ → List ℕ → List ℕ
@@ -93,7 +91,7 @@ abbrev pub counted : Walk → ℕ → List ℕ → Swing
 counted w last m = copying w 0 last last 0 (tallied m)
 
 abbrev pub marking : ℕ → Stride → Swing
-marking last s = elim s.request [ None ↦ counted s.walk last s.memory | Some q ↦ swing (sweep Marking s.walk 0 last last 0) s.memory (Some q) ]
+marking last s = elim s.request [ None ↦ counted s.state last s.memory | Some q ↦ swing (sweep Marking s.state 0 last last 0) s.memory (Some q) ]
 
 -- it begins with the head in its place in memory; a memory that is too short for the plan is left alone
 abbrev pub window_at : List ℕ → Walk
@@ -115,12 +113,8 @@ unfoldable pub sweep_went_on : Sweep → List ℕ → Swing
 sweep_went_on s m = pick (nat_lt (length m) plan_end) (swing s m None) (sweep_at s m s.stage)
 
 -- IN A CLIENT
-abbrev pub asked_on : {K : Type 0} → (Sweep → K) → (Sweep → List ℕ → Asked K) → Sweep → List ℕ → Option Request → Asked K
-asked_on put back s m None = back s m
-asked_on put back s m (Some q) = asked (put s) m q
-
 abbrev pub swung : {K : Type 0} → (Sweep → K) → (Sweep → List ℕ → Asked K) → Swing → Asked K
-swung put back v = asked_on put back v.sweep v.memory v.request
+swung put back v = asked_on put back v.state v.memory v.request
 
 abbrev pub SweepsIn : {K : Type 0} → Program K → (Sweep → K) → (Sweep → List ℕ → Asked K) → Type 0
 SweepsIn p put back = (s : Sweep) (m : List ℕ) → length m ≡ bulk_cells → p.resumes (put s) m ≡ swung put back (sweep_went_on s m)

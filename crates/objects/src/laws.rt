@@ -7,45 +7,33 @@ ghost use Rattle.objects.specs.Sweeping.{Sweeps};
 use pages::laws::Course;
 
 // Counts of the places where a test holds.
-pub fn counts_rightly() -> u8
+pub fn counts_rightly()
     ensures { CountsRight }
-{
-    0
-}
+{}
 
 // Setting a bit adds one to the count if it was clear; setting a run that was clear adds its length.
-pub fn counts_what_is_set() -> u8
+pub fn counts_what_is_set()
     ensures { SetsCounted }
-{
-    0
-}
+{}
 
 // A tally leaves the map and its counts; with them a rank is the number of bits set below a unit.
-pub fn ranks_rightly() -> u8
+pub fn ranks_rightly()
     ensures tallies { TallyHolds }
     ensures ranks { Ranks }
     ensures after { RanksTallied }
-{
-    0
-}
+{}
 
 // Words written over a part of a row stand there, and leave what is beside them.
-pub fn parts_stay() -> u8
+pub fn parts_stay()
     ensures { PartsStay }
-{
-    0
-}
+{}
 
 // A client that marks meets all that is live, and goes on well if it does so with what is marked in place.
-pub fn marks_what_is_live<K, P: Course<K>>(p: &P) -> u8
+pub fn marks_what_is_live<K, P: Course<K>>(p: &P)
     ensures { Marks (P.stop p.now) (P.end p.now) }
-{
-    0
-}
+{}
 
 // A client that sweeps keeps all that is live, under new names, and goes on well if it does so with that in place.
-pub fn sweeps_keep_what_is_live<K, P: Course<K>>(p: &P) -> u8
+pub fn sweeps_keep_what_is_live<K, P: Course<K>>(p: &P)
     ensures { Sweeps (P.stop p.now) (P.end p.now) }
-{
-    0
-}
+{}

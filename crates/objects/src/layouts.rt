@@ -2,13 +2,22 @@
 ghost use Rattle.std.specs.Prelude.{◌≡◌, ◌+◌, ◌*◌, ◌<◌, ◌≤◌, ◌++◌, length, take, drop};
 ghost use Rattle.pages.specs.Lists.{zeros};
 ghost use Rattle.pages.specs.Words.{over};
-ghost use Rattle.objects.specs.Layouts.{answered, bytes_put, bytes_stand, commit_fits, commit_front, commit_of, commit_read, eight_of, file_object, file_read, in_front, key_at, name_fits, name_of, name_read, of_kind, BytesBack, ReadBack, words_at, words_for};
+ghost use Rattle.objects.specs.Layouts.{answered, bytes_put, bytes_stand, commit_fits, commit_front, commit_of, commit_read, eight_of, file_object, file_read, in_front, key_at, kind_number, name_fits, name_of, name_read, of_kind, BytesBack, ReadBack, words_at, words_for};
 ghost use Rattle.objects.specs.Marking.{key_words};
 
 use crate::mark::Key;
+use crate::pack::copy_words;
 use crate::plan;
 use pages::bytes::number;
 use pages::object::{heading, kind_in};
+
+// The kinds of objects, by the numbers that the format gives them; a tree is laid with the tree rows.
+#[derive(Clone, Copy)]
+enum Kind {
+    File = 1,
+    Commit = 3,
+    Name = 4,
+}
 
 // A commit: references to its tree and its parents, of which none to two are there, and what it says; of its words so many bytes.
 #[derive(Clone, Copy)]
@@ -35,7 +44,7 @@ fn words_for(bytes: u64) -> usize
     requires { bytes ≤ 65535 }
     ensures { result ≡ words_for bytes }
 {
-    ((bytes + 7) / 8) as usize
+    bytes.div_ceil(8) as usize
 }
 
 // Whether so many bytes, and not too many, stand in memory behind the buffer.
@@ -45,18 +54,8 @@ fn stands(memory: &[u64], most: u64, bytes: u64, from: usize) -> bool
 {
     memory.len() >= plan::END
         && bytes <= most
-        && from >= 41_088
+        && from >= plan::REST
         && from <= memory.len() - words_for(bytes)
-}
-
-// Copies words down.
-fn copy_down(memory: &mut [u64], from: usize, to: usize, many: usize)
-    requires { (to ≤ from) × (from + many ≤ length memory.old) }
-    ensures { memory.new ≡ over to (take many (drop from memory.old)) memory.old }
-{
-    for i in 0..many {
-        memory[to + i] = memory[from + i];
-    }
 }
 
 // Puts an object in front of the buffer: its first words, and then words that stand behind the buffer.
@@ -64,7 +63,7 @@ fn put_object(memory: &mut [u64], front: &[u64], from: usize, many: usize)
     requires { (length front.now ≤ from) × (from + many ≤ length memory.old) }
     ensures { memory.new ≡ over 0 (front.now ++ take many (drop from memory.old)) memory.old }
 {
-    copy_down(memory, from, front.len(), many);
+    copy_words(memory, from, front.len(), many);
     memory[0..front.len()].copy_from_slice(front);
 }
 
@@ -78,7 +77,7 @@ pub fn compose_file(memory: &mut [u64], sum: Key, bytes: u64, from: usize) -> Op
     }
     let words = words_for(bytes);
     let front = [
-        heading(1, 0, 6 + words as u32),
+        heading(Kind::File as u16, 0, 6 + words as u32),
         64 + bytes,
         sum.a,
         sum.b,
@@ -95,7 +94,7 @@ fn commit_front(commit: &Commit, words: u32) -> [u64; 11]
     ensures { result ≡ commit_front words commit.now }
 {
     [
-        heading(3, 3, 11 + words),
+        heading(Kind::Commit as u16, 3, 11 + words),
         256 + commit.bytes + commit.tree_weight,
         commit.tree,
         commit.one,
@@ -135,7 +134,7 @@ pub fn compose_name(memory: &mut [u64], name: Name, from: usize) -> Option<u64>
     }
     let words = words_for(name.bytes);
     let front = [
-        heading(4, 2, 6 + words as u32),
+        heading(Kind::Name as u16, 2, 6 + words as u32),
         128,
         name.next,
         name.commit,
@@ -147,17 +146,17 @@ pub fn compose_name(memory: &mut [u64], name: Name, from: usize) -> Option<u64>
 }
 
 // Whether the object in the buffer is of a kind.
-fn is_kind(memory: &[u64], kind: u64) -> bool
-    ensures { result ≡ of_kind kind memory.now }
+fn is_kind(memory: &[u64], kind: Kind) -> bool
+    ensures { result ≡ of_kind (kind_number kind) memory.now }
 {
-    memory.len() >= plan::END && kind_in(memory[0]) == kind
+    memory.len() >= plan::END && kind_in(memory[0]) == kind as u64
 }
 
 // How many bytes the file in the buffer has.
 pub fn read_file(memory: &[u64]) -> Option<u64>
     ensures { result ≡ file_read memory.now }
 {
-    if !is_kind(memory, 1) {
+    if !is_kind(memory, Kind::File) {
         return None;
     }
     Some(memory[1].saturating_sub(64))
@@ -180,7 +179,7 @@ fn key_in(memory: &[u64], at: usize) -> Key
 pub fn read_commit(memory: &[u64]) -> Option<Commit>
     ensures { result ≡ commit_read memory.now }
 {
-    if !is_kind(memory, 3) {
+    if !is_kind(memory, Kind::Commit) {
         return None;
     }
     let tree_weight = memory[10];
@@ -199,7 +198,7 @@ pub fn read_commit(memory: &[u64]) -> Option<Commit>
 pub fn read_name(memory: &[u64]) -> Option<Name>
     ensures { result ≡ name_read memory.now }
 {
-    if !is_kind(memory, 4) {
+    if !is_kind(memory, Kind::Name) {
         return None;
     }
     Some(Name {
@@ -236,15 +235,11 @@ pub fn put_bytes(memory: &mut [u64], at: usize, bytes: &[u8])
 }
 
 // What was composed is read back as it was.
-pub fn reads_back() -> u8
+pub fn reads_back()
     ensures { ReadBack }
-{
-    0
-}
+{}
 
 // Bytes come back out of the words that they were packed into.
-pub fn bytes_come_back() -> u8
+pub fn bytes_come_back()
     ensures { BytesBack }
-{
-    0
-}
+{}

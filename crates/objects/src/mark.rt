@@ -1,8 +1,9 @@
 // Marking: a walk down the tape that meets each live object once. Bits of the map stand for units of the window.
 ghost use Rattle.std.specs.Prelude.{◌≡◌, ◌≤◌, ◌&&◌, length, ◌==◌, slice_index};
-ghost use Rattle.pages.specs.Object.{kind_in};
+ghost use Rattle.pages.specs.Object.{kind_in, size_in};
 ghost use Rattle.pages.specs.Lists.{same};
-ghost use Rattle.objects.specs.Marking.{key_met, key_words, met_memory, met_walk, references_met, rooted, sought, stride, unmarked, went_on, with_reference, with_references};
+ghost use Rattle.objects.specs.Heap.{units};
+ghost use Rattle.objects.specs.Marking.{key_met, key_words, met_memory, met_walk, references_met, rooted, roots_marked, sought, stride, unmarked, went_on, with_reference, with_references};
 ghost use Rattle.objects.specs.Plan.{map_of, plan_end, with_map};
 
 use crate::plan;
@@ -45,13 +46,20 @@ pub struct Walk {
     pub found: u64,
 }
 
+// How many units an object takes, by its first word.
+pub(crate) fn units_in(word: u64) -> u64
+    ensures { result ≡ units (size_in word) }
+{
+    size_in(word).div_ceil(8)
+}
+
 // Marks a reference into the window that starts at a unit.
 fn mark_reference(memory: &mut [u64], first: u64, reference: u64)
     requires { plan_end ≤ length memory.old }
     ensures { memory.new ≡ with_map (with_reference first reference (map_of memory.old)) memory.old }
 {
     if reference > first {
-        bitmap::set(&mut memory[41_184..172_256], reference - 1 - first);
+        bitmap::set(&mut memory[plan::MAP..plan::COUNTS], reference - 1 - first);
     }
 }
 
@@ -67,58 +75,60 @@ fn mark_references(memory: &mut [u64], first: u64)
     }
 }
 
-// Whether the object in the buffer is the one that is looked for.
-fn is_sought(walk: &Walk, memory: &[u64]) -> bool
-    requires { plan_end ≤ length memory.now }
-    ensures { result ≡ (kind_in (slice_index memory.now 0) == walk.now.kind) && same (key_met memory.now) (key_words walk.now.key) }
-{
-    let at = 2 + references_in(memory[0]).min(4_096) as usize;
-    let key = walk.key.words();
-    kind_in(memory[0]) == walk.kind && &memory[at..at + 4] == key.as_slice()
-}
-
-// Meets the object in the buffer: its units and references are marked, and its weight is added.
-fn meet(walk: &mut Walk, memory: &mut [u64])
-    requires { plan_end ≤ length memory.old }
-    ensures walk { walk.new ≡ met_walk walk.old memory.old }
-    ensures memory { memory.new ≡ met_memory walk.old memory.old }
-{
-    if is_sought(walk, memory) {
-        walk.found = walk.first.saturating_add(walk.below).saturating_add(1);
+impl Walk {
+    // Whether the object in the buffer is the one that is looked for.
+    fn is_sought(&self, memory: &[u64]) -> bool
+        requires { plan_end ≤ length memory.now }
+        ensures { result ≡ (kind_in (slice_index memory.now 0) == self.now.kind) && same (key_met memory.now) (key_words self.now.key) }
+    {
+        let at = 2 + references_in(memory[0]).min(4_096) as usize;
+        let key = self.key.words();
+        kind_in(memory[0]) == self.kind && &memory[at..at + 4] == key.as_slice()
     }
-    walk.weight = walk.weight.saturating_add(memory[1]);
-    let units = (size_in(memory[0]) + 7) / 8;
-    bitmap::set_run(&mut memory[41_184..172_256], walk.below, units);
-    mark_references(memory, walk.first);
-}
 
-// Asks for the highest live object below the cursor; none is asked for when all are met.
-pub fn seek(walk: &mut Walk, memory: &[u64]) -> Option<Request>
-    ensures { stride walk.new memory.now result ≡ sought walk.old memory.now }
-{
-    if memory.len() < plan::END {
-        return None;
+    // Meets the object in the buffer: its units and references are marked, and its weight is added.
+    fn meet(&mut self, memory: &mut [u64])
+        requires { plan_end ≤ length memory.old }
+        ensures walk { self.new ≡ met_walk self.old memory.old }
+        ensures memory { memory.new ≡ met_memory self.old memory.old }
+    {
+        if self.is_sought(memory) {
+            self.found = self.first.saturating_add(self.below).saturating_add(1);
+        }
+        self.weight = self.weight.saturating_add(memory[1]);
+        let units = units_in(memory[0]);
+        bitmap::set_run(&mut memory[plan::MAP..plan::COUNTS], self.below, units);
+        mark_references(memory, self.first);
     }
-    let Some(unit) = bitmap::highest_below(&memory[41_184..172_256], walk.below) else {
-        walk.below = 0;
-        return None;
-    };
-    walk.below = unit;
-    Some(Request::Object {
-        at: walk.first.saturating_add(unit).saturating_mul(8),
-        limit: GLANCE,
-    })
-}
 
-// The object that was asked for came: it is met, and the next one is asked for.
-pub fn go_on(walk: &mut Walk, memory: &mut [u64]) -> Option<Request>
-    ensures { stride walk.new memory.new result ≡ went_on walk.old memory.old }
-{
-    if memory.len() < plan::END {
-        return None;
+    // Asks for the highest live object below the cursor; none is asked for when all are met.
+    pub fn seek(&mut self, memory: &[u64]) -> Option<Request>
+        ensures { stride self.new memory.now result ≡ sought self.old memory.now }
+    {
+        if memory.len() < plan::END {
+            return None;
+        }
+        let Some(unit) = bitmap::highest_below(&memory[plan::MAP..plan::COUNTS], self.below) else {
+            self.below = 0;
+            return None;
+        };
+        self.below = unit;
+        Some(Request::Object {
+            at: self.first.saturating_add(unit).saturating_mul(8),
+            limit: GLANCE,
+        })
     }
-    meet(walk, memory);
-    seek(walk, memory)
+
+    // The object that was asked for came: it is met, and the next one is asked for.
+    pub fn go_on(&mut self, memory: &mut [u64]) -> Option<Request>
+        ensures { stride self.new memory.new result ≡ went_on self.old memory.old }
+    {
+        if memory.len() < plan::END {
+            return None;
+        }
+        self.meet(memory);
+        self.seek(memory)
+    }
 }
 
 // Marks nothing any more.
@@ -126,7 +136,7 @@ pub fn unmark(memory: &mut [u64])
     ensures { memory.new ≡ unmarked memory.old }
 {
     if memory.len() >= plan::END {
-        bitmap::clear(&mut memory[41_184..172_256]);
+        bitmap::clear(&mut memory[plan::MAP..plan::COUNTS]);
     }
 }
 
@@ -136,5 +146,15 @@ pub fn mark_root(memory: &mut [u64], first: u64, reference: u64)
 {
     if memory.len() >= plan::END {
         mark_reference(memory, first, reference);
+    }
+}
+
+// Marks the roots and nothing else.
+pub fn mark_roots(memory: &mut [u64], first: u64, roots: &[u64])
+    ensures { memory.new ≡ roots_marked first roots.now memory.old }
+{
+    unmark(memory);
+    for reference in roots {
+        mark_root(memory, first, *reference);
     }
 }

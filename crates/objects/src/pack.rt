@@ -1,39 +1,16 @@
 // Packing: objects follow each other unit by unit, and are laid in whole pages. What is more than whole pages waits for the next object.
-ghost use Rattle.std.specs.Prelude.{◌≡◌, ◌+◌, ◌*◌, ◌≤◌, length, take, drop};
+ghost use Rattle.std.specs.Prelude.{◌≡◌, ◌+◌, ◌≤◌, length, take, drop};
 ghost use Rattle.pages.specs.Words.{over};
-ghost use Rattle.objects.specs.Packing.{filled, kept_back, packed, pages_packed};
-ghost use Rattle.objects.specs.Plan.{plan_end, rest_at};
+ghost use Rattle.objects.specs.Packing.{filled, packed, pages_packed};
 
 use crate::plan;
 
-// Moves the first words of the buffer up.
-fn move_up(memory: &mut [u64], by: usize, words: usize)
-    requires { by + words ≤ length memory.old }
-    ensures { memory.new ≡ over by (take words memory.old) memory.old }
+// Copies words to another place; the two may overlap.
+pub(crate) fn copy_words(memory: &mut [u64], from: usize, to: usize, many: usize)
+    requires { (from + many ≤ length memory.old) × (to + many ≤ length memory.old) }
+    ensures { memory.new ≡ over to (take many (drop from memory.old)) memory.old }
 {
-    for i in (0..words).rev() {
-        memory[i + by] = memory[i];
-    }
-}
-
-// Puts the words that wait in front of the buffer.
-fn put_rest(memory: &mut [u64], many: usize)
-    requires { (plan_end ≤ length memory.old) × (many ≤ 64) }
-    ensures { memory.new ≡ over 0 (take many (drop rest_at memory.old)) memory.old }
-{
-    let mut rest = [0; 64];
-    rest.copy_from_slice(&memory[41_088..41_152]);
-    memory[0..many].copy_from_slice(&rest[0..many]);
-}
-
-// Keeps a page of the buffer back.
-fn keep_back(memory: &mut [u64], page: usize)
-    requires { (plan_end ≤ length memory.old) × (page ≤ 641) }
-    ensures { memory.new ≡ kept_back page memory.old }
-{
-    let mut rest = [0; 64];
-    rest.copy_from_slice(&memory[64 * page..64 * page + 64]);
-    memory[41_088..41_152].copy_from_slice(&rest);
+    memory.copy_within(from..from + many, to);
 }
 
 // Gathers the words that wait and the first words of the buffer; says how many whole pages there are to lay, and keeps back what is more.
@@ -46,10 +23,10 @@ pub fn pack(memory: &mut [u64], waiting: u64, words: u64) -> u64
     }
     let waiting = waiting.min(63) as usize;
     let words = words.min(41_024) as usize;
-    move_up(memory, waiting, words);
-    put_rest(memory, waiting);
+    copy_words(memory, 0, waiting, words);
+    copy_words(memory, plan::REST, 0, waiting);
     let pages = (waiting + words) / 64;
-    keep_back(memory, pages);
+    copy_words(memory, 64 * pages, plan::REST, 64);
     pages as u64
 }
 
@@ -61,8 +38,6 @@ pub fn fill(memory: &mut [u64], waiting: u64)
         return;
     }
     let waiting = waiting.min(63) as usize;
-    put_rest(memory, waiting);
-    for i in waiting..64 {
-        memory[i] = 0;
-    }
+    copy_words(memory, plan::REST, 0, waiting);
+    memory[waiting..64].fill(0);
 }

@@ -38,11 +38,7 @@ fn ones_in(words: &[u64]) -> u64
     ensures value { result ≡ sum_by count_ones words.now }
     ensures bound { result ≤ 512 }
 {
-    let mut sum = 0;
-    for word in words {
-        sum += ones_of(*word);
-    }
-    sum
+    words.iter().map(|word| ones_of(*word)).sum()
 }
 
 // The set bits of a word below a place.
@@ -59,5 +55,5 @@ fn ones_of(word: u64) -> u64
     ensures value { result ≡ count_ones word }
     ensures bound { result ≤ 64 }
 {
-    word.count_ones() as u64
+    u64::from(word.count_ones())
 }

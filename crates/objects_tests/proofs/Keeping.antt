@@ -4,7 +4,7 @@ use Rattle.std.proofs.lemmas.Bool.{le-ltb}
 use Rattle.pages.specs.Engine.{bulk_cells}
 use Rattle.pages.specs.Lists.{zeros}
 use Rattle.pages.specs.Machine.{asked}
-use Rattle.pages.specs.declared.machine.Request.TheVariants.{Finish}
+use Rattle.pages.specs.declared.machine.Request.TheVariants.{Refuse}
 use Rattle.pages.proofs.ListLaws.{pick_false}
 use Rattle.objects.specs.Plan.{plan_end}
 use Rattle.objects.specs.Sweeping.{sweep}
@@ -37,7 +37,7 @@ loads_saved k =
 
 -- with room for the plan it goes on by its phase
 resumes_at : (k : Keeper) (m : List ℕ) → plan_end ≤ length m → keeper_resumes k m ≡ resumed k m k.phase
-resumes_at k m h = pick_false (ltb (length m) plan_end) (asked k m (Finish 2)) (resumed k m k.phase) (le-ltb (length m) plan_end h)
+resumes_at k m h = pick_false (ltb (length m) plan_end) (asked k m (Refuse 2)) (resumed k m k.phase) (le-ltb (length m) plan_end h)
 
 pub resumes_in : (k : Keeper) (m : List ℕ) (p : Phase) → plan_end ≤ length m → k.phase ≡ p → resumed k m p ≡ keeper_resumes k m
 resumes_in k m p h e = ap (resumed k m) (sym e) ∙ sym (resumes_at k m h)

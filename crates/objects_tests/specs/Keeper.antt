@@ -2,10 +2,11 @@
 use Rattle.std.specs.Prelude.{◌≡◌, ℕ, ◌-◌, ◌*◌, List, [], ◌∷◌, ◌++◌, length, take, drop, ◌==◌, nat_lt, slice_index, slice_set}
 use Rattle.pages.specs.Bytes.{from_bytes}
 use Rattle.pages.specs.Lists.{pick, zeros}
+use Rattle.pages.specs.Engine.{Housed, housed}
 use Rattle.pages.specs.Machine.{Asked, Program, program, asked, capped}
 use Rattle.pages.specs.Words.{over}
 use Rattle.pages.specs.declared.machine.Request.{Request}
-use Rattle.pages.specs.declared.machine.Request.TheVariants.{Recall, Look, Object, Lay, Publish, Show, Finish}
+use Rattle.pages.specs.declared.machine.Request.TheVariants.{Recall, Look, Object, Lay, Publish, Show, Done, Refuse}
 use Rattle.objects.specs.Marking.{Walks, begun, key, sought, walk, walked, went_on}
 use Rattle.objects.specs.Plan.{head_at, plan_end}
 use Rattle.objects.specs.Sweeping.{SweepsIn, sweep, sweep_begun, sweep_went_on, swung}
@@ -72,7 +73,7 @@ request_said code a b =
     pick (code == 0) (Look a b)
     (pick (code == 1) (Object a b)
     (pick (code == 2) (Lay a b)
-    (pick (code == 3) Publish (pick (code == 4) (Show a) (pick (code == 5) Recall (pick (code == 6) Recall (Finish 1)))))))
+    (pick (code == 3) Publish (pick (code == 4) (Show a) (pick (code == 5) Recall (pick (code == 6) Recall (Refuse 1)))))))
 
 abbrev pub phase_said : ℕ → Phase
 phase_said code = pick (code == 5) ToSweep (pick (code == 6) ToSurvey Once)
@@ -86,7 +87,7 @@ keeper_wakes k c hs ps = k
 
 abbrev pub keeper_hears : Keeper → List ℕ → List ℕ → Asked Keeper
 keeper_hears k m text =
-    pick (nat_lt (length text) 48) (asked k m (Finish 1))
+    pick (nat_lt (length text) 48) (asked k m (Refuse 1))
     (asked (keeper (phase_said (said 0 text)) k.sweep (walk_said text)) m (request_said (said 0 text) (said 8 text) (said 16 text)))
 
 -- SWEEPING: while it sweeps, and when the sweep has ended
@@ -95,7 +96,7 @@ abbrev pub sweeping : Walk → Sweep → Keeper
 sweeping w s = keeper Sweeping s w
 
 abbrev pub swept : Walk → Sweep → List ℕ → Asked Keeper
-swept w s m = asked (keeper Once s w) m (Finish 0)
+swept w s m = asked (keeper Once s w) m Done
 
 -- SURVEYING: while it walks, and when all is met: what was met weighs so much, and what was looked for is there
 
@@ -110,7 +111,7 @@ abbrev pub window_in : Walk → List ℕ → Walk
 window_in w m = walk (capped (8 * slice_index m 0)) (capped (8 * (slice_index m 1 - slice_index m 0))) 0 w.kind w.key 0
 
 abbrev pub resumed : Keeper → List ℕ → Phase → Asked Keeper
-resumed k m Once = asked k m (Finish 0)
+resumed k m Once = asked k m Done
 resumed k m ToSweep = swung (sweeping k.walk) (swept k.walk) (sweep_begun k.sweep (over head_at (take 32 m) m))
 resumed k m ToSurvey =
     walked (surveying k.sweep) (surveyed k.sweep)
@@ -119,10 +120,13 @@ resumed k m Sweeping = swung (sweeping k.walk) (swept k.walk) (sweep_went_on k.s
 resumed k m Surveying = walked (surveying k.sweep) (surveyed k.sweep) (went_on k.walk m)
 
 abbrev pub keeper_resumes : Keeper → List ℕ → Asked Keeper
-keeper_resumes k m = pick (nat_lt (length m) plan_end) (asked k m (Finish 2)) (resumed k m k.phase)
+keeper_resumes k m = pick (nat_lt (length m) plan_end) (asked k m (Refuse 2)) (resumed k m k.phase)
 
 abbrev pub keeping : Program Keeper
 keeping = program keeper_wakes keeper_hears keeper_resumes
+
+abbrev pub keeper_client : Housed Keeper
+keeper_client = housed keeping keeper_loads keeper_saves
 
 -- What was saved is loaded again.
 abbrev pub LoadsSaved : Type 0

@@ -5,7 +5,7 @@ ghost use Rattle.pages.specs.Words.{over};
 ghost use Rattle.objects.specs.Marking.{asked_on as walked_on, begun, sought, walked, went_on};
 ghost use Rattle.objects.specs.Plan.{head_at, plan_end};
 ghost use Rattle.objects.specs.Sweeping.{asked_on as swung_on, sweep_begun, sweep_went_on, swung};
-ghost use Rattle.objects_tests.specs.Keeper.{keeper_hears, keeper_loads, keeper_resumes, keeper_saves, keeper_wakes, KeeperSweeps, KeeperWalks, LoadsSaved, phase_code, phase_in, phase_said, request_said, said as said_at, stage_code, stage_in, surveyed, surveying, sweep_in, sweeping, swept, walk_in, walk_said, window_in};
+ghost use Rattle.objects_tests.specs.Keeper.{keeper_client, KeeperSweeps, KeeperWalks, LoadsSaved, phase_code, phase_in, phase_said, request_said, said as said_at, stage_code, stage_in, surveyed, surveying, sweep_in, sweeping, swept, walk_in, walk_said, window_in};
 
 use objects::mark::{Key, Walk};
 use objects::sweep::{Stage, Sweep};
@@ -132,7 +132,7 @@ fn request_said(code: u64, a: u64, b: u64) -> Request
         4 => Request::Show { bytes: a },
         5 => Request::Recall,
         6 => Request::Recall,
-        _ => Request::Finish { reply: 1 },
+        _ => Request::Refuse { number: 1 },
     }
 }
 
@@ -184,7 +184,7 @@ impl Keeper {
     {
         let Some(request) = request else {
             self.phase = Phase::Once;
-            return Request::Finish { reply: 0 };
+            return Request::Done;
         };
         self.phase = Phase::Sweeping;
         request
@@ -250,15 +250,7 @@ impl Keeper {
 }
 
 impl Client for Keeper {
-    ghost wakes = { keeper_wakes };
-
-    ghost hears = { keeper_hears };
-
-    ghost resumes = { keeper_resumes };
-
-    ghost loads = { keeper_loads };
-
-    ghost saves = { keeper_saves };
+    ghost housed = { keeper_client };
 
     fn load(cells: &[u64; 120]) -> Keeper {
         Keeper {
@@ -301,7 +293,7 @@ impl Client for Keeper {
 
     fn hear(&mut self, memory: &mut [u64], text: &[u8]) -> Request {
         if text.len() < 48 {
-            return Request::Finish { reply: 1 };
+            return Request::Refuse { number: 1 };
         }
         let code = said(text, 0);
         self.phase = phase_said(code);
@@ -311,10 +303,10 @@ impl Client for Keeper {
 
     fn resume(&mut self, memory: &mut [u64]) -> Request {
         if memory.len() < plan::END {
-            return Request::Finish { reply: 2 };
+            return Request::Refuse { number: 2 };
         }
         match self.phase {
-            Phase::Once => Request::Finish { reply: 0 },
+            Phase::Once => Request::Done,
             Phase::ToSweep => self.start_sweep(memory),
             Phase::ToSurvey => self.start_survey(memory),
             Phase::Sweeping => self.sweep_on(memory),
@@ -324,16 +316,12 @@ impl Client for Keeper {
 }
 
 // What was saved is loaded again.
-pub fn loads_saved() -> u8
+pub fn loads_saved()
     ensures { LoadsSaved }
-{
-    0
-}
+{}
 
 // What is shown of any client that sweeps or marks holds of this one.
-pub fn sweeps_and_marks() -> u8
+pub fn sweeps_and_marks()
     ensures sweeps { KeeperSweeps }
     ensures walks { KeeperWalks }
-{
-    0
-}
+{}

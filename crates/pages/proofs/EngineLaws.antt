@@ -8,7 +8,7 @@ use Rattle.pages.specs.Run.{Event, on, said, page, next, heard, lost, Step, done
 use Rattle.pages.specs.Machine.{Asked, Moved, served, begun, first_serving, looked, taken, wanted, go_on, page_came, laid_on, act_done, unexpected, buffer_words}
 use Rattle.pages.specs.Engine.{memory_cells, bulk_cells, serving_cells, machine_cells, serving_in, machine_in, Housed, image, stored, stepped_in, engine, request_cells, Small, Lawful}
 use Rattle.pages.specs.declared.machine.Request.{Request}
-use Rattle.pages.specs.declared.machine.Request.TheVariants.{Recall, Look, Object, Lay, Publish, Show, Finish}
+use Rattle.pages.specs.declared.machine.Request.TheVariants.{Recall, Look, Object, Lay, Publish, Show, Done, Refuse}
 use Rattle.pages.specs.declared.machine.Serving.{Serving}
 use Rattle.pages.specs.declared.machine.Serving.TheVariants.{Idle, Recalling, Looking, Opening, Laying, Flushing, Heading, Settling, Showing}
 use Rattle.pages.specs.declared.machine.Machine.{Machine}
@@ -99,7 +99,8 @@ module _ {K : Type 0} (f : Housed K) (law : Lawful f) where
   first_small (Lay v pages) h = four 4 v (min (pages - 1) 641) 64 (omega arith) (small_first v (pages ∷ []) h).0 (omega arith) (omega arith)
   first_small Publish h = refl
   first_small (Show bytes) h = refl
-  first_small (Finish reply) h = refl
+  first_small Done h = refl
+  first_small (Refuse number) h = refl
 
   -- what a step starts from
   record From (P : Type 0) (n : ℕ) (k : K) (m : List ℕ) : Type 0 where

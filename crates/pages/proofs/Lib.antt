@@ -8,3 +8,4 @@ pub mod EngineLaws
 pub mod Sound
 pub mod Handing
 pub mod ObjectLaws
+pub mod MadeLaws

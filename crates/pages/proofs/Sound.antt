@@ -3,16 +3,16 @@
 use Rattle.std.proofs.Common.{◌≡◌, ℕ, zero, suc, ◌+◌, ◌-◌, ◌*◌, ◌/◌, ◌%◌, ◌^◌, ◌<◌, ◌≤◌, min, Bool, true, false, ◌&&◌, eqb, ltb, leb, ◌⊎◌, List, ◌++◌, length, get_or, take, drop, sym, refl, ap, ◌∙◌, subst, ap₂, subst₂, inl, inr, append_assoc, arith, length-append, length-drop, length-take, take-add}
 use Rattle.std.proofs.lemmas.Bool.{ne_eqb, le-ltb, lt-ltb, le-leb, lt-leb, cases_lt, and_from}
 use Rattle.std.proofs.lemmas.List.{take_at, drop_at, take-append-le, take-take, drop-drop, drop-take, length-take-le, get_or-take, get_or-drop}
-use Rattle.pages.specs.Lists.{pick, or}
+use Rattle.pages.specs.Lists.{or}
 use Rattle.pages.specs.Words.{bytes_of, page_words, small, over}
 use Rattle.pages.specs.Device.{Device, Page, read_page, all_written, flushed, stopped, a_page}
-use Rattle.pages.specs.Run.{Event, said, page, next, read, write, flush, shows, done, refused, World, in_memory, on_device, queued, writable}
+use Rattle.pages.specs.Run.{Event, said, page, next, read, write, flush, shows, World, in_memory, on_device, queued, writable}
 use Rattle.pages.specs.Crash.{Rows, stepped, Goes, reads, writes, flushes, showing, refuses}
 use Rattle.pages.specs.Machine.{Asked, served, begun, first_serving, first_act, looked, taken, wanted, go_on, place, head_page, buffer_words}
 use Rattle.pages.specs.Engine.{bulk_cells, Housed, image, stored, engine, Small, Lawful}
 use Rattle.pages.specs.Tape.{first_page, last_page, page_of, published, Window, Tied, Does, recalls, looks, opens, lays, publishes, rows, finishes, Safe, Held, OnTheDevice}
 use Rattle.pages.specs.declared.machine.Request.{Request}
-use Rattle.pages.specs.declared.machine.Request.TheVariants.{Recall, Look, Object, Lay, Publish, Show, Finish}
+use Rattle.pages.specs.declared.machine.Request.TheVariants.{Recall, Look, Object, Lay, Publish, Show, Done, Refuse}
 use Rattle.pages.specs.declared.machine.Serving.{Serving}
 use Rattle.pages.specs.declared.machine.Serving.TheVariants.{Idle, Recalling, Looking, Opening, Laying, Flushing, Heading, Settling, Showing}
 use Rattle.pages.specs.declared.machine.Machine.{Machine}
@@ -445,11 +445,11 @@ module _ {K : Type 0} (f : Housed K) (law : Lawful f) (n : ℕ) (still : Bool) (
       (sound then (in_memory w (image f (machine Showing) a.state a.memory)) next (goes_on Showing a.state a.memory next l) up td st₁
       (law.resumes_length a.state a.memory ∙ l) (law.resumes_small a.state a.memory s.state s.memory))
   sound (finishes a h t laid ss zero rq most end) w ev eq up td st l s =
-      Goes.ends ls w other ev ss (image f (machine Idle) a.state a.memory) (safe w.device h t laid ss td st) (eq ∙ begins a (Finish 0) rq)
+      Goes.ends ls w other ev ss (image f (machine Idle) a.state a.memory) (safe w.device h t laid ss td st) (eq ∙ begins a Done rq)
       (refl, a.state, a.memory, h, t, laid, td, refl, up, s.state, s.memory, l, end)
   sound (finishes a h t laid ss (suc reply) rq most end) w ev eq up td st l s =
       refuses ls w other ev ss (image f (machine Idle) a.state a.memory) (suc reply) (safe w.device h t laid ss td st)
-      (eq ∙ begins a (Finish (suc reply)) rq ∙ ap (λ (b : Bool). stepped (image f (machine Idle) a.state a.memory) (pick b done (refused (suc reply)))) (ne_eqb (suc reply) 0 (λ e. omega arith))) (
+      (eq ∙ begins a (Refuse (suc reply)) rq) (
         refl,
         a.state,
         a.memory,

@@ -9,7 +9,7 @@ use Rattle.pages.specs.declared.told.Told.{Told}
 use Rattle.pages.specs.declared.told.Told.TheVariants.{No}
 use Rattle.pages.specs.Machine.{Asked, Program, Moved, served}
 use Rattle.pages.specs.declared.machine.Request.{Request}
-use Rattle.pages.specs.declared.machine.Request.TheVariants.{Recall, Look, Object, Lay, Publish, Show, Finish}
+use Rattle.pages.specs.declared.machine.Request.TheVariants.{Recall, Look, Object, Lay, Publish, Show, Done, Refuse}
 use Rattle.pages.specs.declared.machine.Serving.{Serving}
 use Rattle.pages.specs.declared.machine.Serving.TheVariants.{Idle, Recalling, Looking, Opening, Laying, Flushing, Heading, Settling, Showing}
 use Rattle.pages.specs.declared.machine.Machine.{Machine}
@@ -75,7 +75,8 @@ request_cells (Object at limit) = at ∷ limit ∷ []
 request_cells (Lay v pages) = v ∷ pages ∷ []
 request_cells Publish = []
 request_cells (Show bytes) = bytes ∷ []
-request_cells (Finish reply) = reply ∷ []
+request_cells Done = []
+request_cells (Refuse number) = number ∷ []
 
 -- all numbers that a client leaves are below 2^64
 pub record Small {K : Type 0} (f : Housed K) (a : Asked K) : Type 0 where

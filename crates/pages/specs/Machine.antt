@@ -1,7 +1,7 @@
 -- The request machine: how a client's requests are served, one act at a time. Page 0 has the head; the pages behind it are a ring, on which virtual
 -- pages, counted from 0 and never wrapping, lie one after the other. Defined for every value of the registers and every event.
 -- Assumes nothing: these are definitions.
-use Rattle.std.specs.Prelude.{◌≡◌, ℕ, ◌+◌, ◌-◌, ◌/◌, ◌%◌, min, max, Bool, true, false, ◌&&◌, List, ◌++◌, length, take, drop, ◌==◌, nat_le, nat_lt, slice_index}
+use Rattle.std.specs.Prelude.{◌≡◌, ℕ, zero, suc, ◌+◌, ◌-◌, ◌/◌, ◌%◌, min, max, Bool, true, false, ◌&&◌, List, ◌++◌, length, take, drop, ◌==◌, nat_le, nat_lt, slice_index}
 use Rattle.pages.specs.Lists.{pick, or, zeros}
 use Rattle.pages.specs.Words.{bytes_of, page_words, over}
 use Rattle.pages.specs.Run.{Event, on, said, page, next, heard, lost, Act, read, write, flush, shows, done, refused}
@@ -9,7 +9,7 @@ use Rattle.pages.specs.Told.{ActTold}
 use Rattle.pages.specs.declared.told.Told.{Told}
 use Rattle.pages.specs.declared.told.Told.TheVariants.{No}
 use Rattle.pages.specs.declared.machine.Request.{Request}
-use Rattle.pages.specs.declared.machine.Request.TheVariants.{Recall, Look, Object, Lay, Publish, Show, Finish}
+use Rattle.pages.specs.declared.machine.Request.TheVariants.{Recall, Look, Object, Lay, Publish, Show, Done, Refuse}
 use Rattle.pages.specs.declared.machine.Serving.{Serving}
 use Rattle.pages.specs.declared.machine.Serving.TheVariants.{Idle, Recalling, Looking, Opening, Laying, Flushing, Heading, Settling, Showing}
 use Rattle.pages.specs.declared.machine.Machine.{Machine}
@@ -61,8 +61,10 @@ pub record Moved (K : Type 0) : Type 0 where
 abbrev pub moved : {K : Type 0} → ℕ → Serving → K → List ℕ → Act → Moved K
 moved n s k m a = record { machine = record { ring = n; serving = s }; state = k; memory = m; act = a }
 
-abbrev pub ended : ℕ → Act
-ended reply = pick (reply == 0) done (refused reply)
+-- how a command ends by its reply: by 0 it is done, by any other number it is refused
+abbrev pub ending : ℕ → Request
+ending zero = Done
+ending (suc number) = Refuse (suc number)
 
 -- the first act for a request, and what is served from then on
 abbrev pub first_serving : Request → Serving
@@ -72,7 +74,8 @@ first_serving (Object at limit) = Opening at limit
 first_serving (Lay v pages) = Laying v (min (pages - 1) 641) 64
 first_serving Publish = Flushing
 first_serving (Show bytes) = Showing
-first_serving (Finish reply) = Idle
+first_serving Done = Idle
+first_serving (Refuse number) = Idle
 
 abbrev pub first_act : ℕ → List ℕ → Request → Act
 first_act n m Recall = read 0
@@ -81,7 +84,8 @@ first_act n m (Object at limit) = read (place n (at / 64))
 first_act n m (Lay v pages) = write (place n v) (bytes_of (take 64 m))
 first_act n m Publish = flush
 first_act n m (Show bytes) = shows (take (min bytes row_bytes) (bytes_of (take 16384 m)))
-first_act n m (Finish reply) = ended reply
+first_act n m Done = done
+first_act n m (Refuse number) = refused number
 
 abbrev pub begun : {K : Type 0} → ℕ → Asked K → Moved K
 begun n a = moved n (first_serving a.request) a.state a.memory (first_act n a.memory a.request)

@@ -6,10 +6,10 @@ use Rattle.pages.specs.Device.{Device, page_at, read_page, stopped}
 use Rattle.pages.specs.Run.{World, said}
 use Rattle.pages.specs.Crash.{Rows, Goes}
 use Rattle.pages.specs.Laws.{elsewhere}
-use Rattle.pages.specs.Machine.{Asked, Program, buffer_words, row_bytes, place, head_page, wanted}
+use Rattle.pages.specs.Machine.{Asked, Program, buffer_words, row_bytes, place, head_page, wanted, ending}
 use Rattle.pages.specs.Engine.{Housed, image, bulk_cells, engine, Lawful}
 use Rattle.pages.specs.declared.machine.Machine.{Machine}
-use Rattle.pages.specs.declared.machine.Request.TheVariants.{Recall, Look, Object, Lay, Publish, Show, Finish}
+use Rattle.pages.specs.declared.machine.Request.TheVariants.{Recall, Look, Object, Lay, Publish, Show}
 use Rattle.pages.specs.declared.machine.Serving.TheVariants.{Idle}
 
 -- the head's first two words: the window goes from the first page to before the last
@@ -82,7 +82,7 @@ pub data Does {K : Type 0} (p : Program K) (n : ℕ) (Stop : List ℕ → List �
       Does p n Stop End (p.resumes a.state a.memory) h t laid (ss ++ take bytes (bytes_of (take 16384 a.memory)) ∷ []) →
       Does p n Stop End a h t laid ss
   finishes :
-      (a : Asked K) (h t : List ℕ) (laid : ℕ) (ss : Rows) (reply : ℕ) → a.request ≡ Finish reply → reply < 1000 →
+      (a : Asked K) (h t : List ℕ) (laid : ℕ) (ss : Rows) (reply : ℕ) → a.request ≡ ending reply → reply < 1000 →
       End a.state a.memory h t laid ss reply → Does p n Stop End a h t laid ss
 
 -- after any stop the device holds some head with its window that may come up; the other house is as it was

@@ -5,9 +5,10 @@ ghost use Rattle.pages.specs.Bytes.{eight, from_bytes};
 pub fn number(bytes: &[u8]) -> u64
     ensures { result ≡ from_bytes 0 (take 8 bytes.now) }
 {
+    let front = &bytes[0..bytes.len().min(8)];
     let mut n = 0;
-    for i in 0..bytes.len().min(8) {
-        n = 256 * n + u64::from(bytes[i]);
+    for byte in front {
+        n = 256 * n + u64::from(*byte);
     }
     n
 }

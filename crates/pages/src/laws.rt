@@ -8,25 +8,19 @@ ghost use Rattle.pages.specs.Tape.{HandedDown, OnTheDevice};
 ghost use Rattle.pages.specs.Words.{PagesAndWords};
 
 // What was flushed stays, whatever a stop leaves of later writes to other pages.
-pub fn flushed_stays() -> u8
+pub fn flushed_stays()
     ensures { FlushedStays }
-{
-    0
-}
+{}
 
 // A byte that all waiting writes to its page leave as it is stays, whatever a stop leaves of them.
-pub fn byte_stays() -> u8
+pub fn byte_stays()
     ensures { ByteStays }
-{
-    0
-}
+{}
 
 // Words out of a page and back undo each other.
-pub fn pages_are_words() -> u8
+pub fn pages_are_words()
     ensures { PagesAndWords }
-{
-    0
-}
+{}
 
 // What is promised of a run: of each stop, and of the end.
 pub trait Promises {
@@ -36,18 +30,14 @@ pub trait Promises {
 }
 
 // A run that goes well by the crash logic, whatever is promised of its stops and its end, ends well, and may be stopped after any of its acts.
-pub fn runs_well<P: Promises>(p: &P) -> u8
+pub fn runs_well<P: Promises>(p: &P)
     ensures { RunsWell (P.stop p.now) (P.end p.now) }
-{
-    0
-}
+{}
 
 // Rows are the same if they are equal, and of two different rows one is earlier.
-pub fn rows_are_ordered() -> u8
+pub fn rows_are_ordered()
     ensures { RowsOrdered }
-{
-    0
-}
+{}
 
 // What is promised of a client on the tape, whose registers are a K: of each stop, and of the end.
 pub trait Course<K> {
@@ -57,15 +47,11 @@ pub trait Course<K> {
 }
 
 // A client that goes well on the tape goes well on the device, whatever the stops.
-pub fn goes_on_the_device<K, P: Course<K>>(p: &P) -> u8
+pub fn goes_on_the_device<K, P: Course<K>>(p: &P)
     ensures { OnTheDevice (P.stop p.now) (P.end p.now) }
-{
-    0
-}
+{}
 
 // What was shown of a client on the tape holds of one that hands these phases down to it.
-pub fn hands_down<K, P: Course<K>>(p: &P) -> u8
+pub fn hands_down<K, P: Course<K>>(p: &P)
     ensures { HandedDown (P.stop p.now) (P.end p.now) }
-{
-    0
-}
+{}

@@ -1,6 +1,7 @@
 // The request machine: it serves a client's requests by acts on the device, one act at a time.
 ghost use Rattle.std.specs.Prelude.{◌≡◌, ℕ, ◌%◌, ◌≤◌, true, List, ◌++◌, length, take, drop};
-ghost use Rattle.pages.specs.Machine.{Asked, asked, place, first_serving, first_act, buffer_words, row_bytes, begun, Moves, taken, looked, go_on, program, page_came, laid_on, act_done, served, ServeSays, serve_fits};
+ghost use Rattle.pages.specs.Engine.{Housed};
+ghost use Rattle.pages.specs.Machine.{asked, place, first_serving, first_act, buffer_words, row_bytes, begun, Moves, taken, looked, go_on, page_came, laid_on, act_done, served, ServeSays, serve_fits};
 ghost use Rattle.pages.specs.Told.{ActTold, event_meant};
 ghost use Rattle.pages.specs.Words.{over, page_words};
 
@@ -14,7 +15,7 @@ pub const BUFFER: usize = 41_088;
 pub const ROW: usize = 131_072;
 
 // What a client may ask for.
-#[derive(Clone, Copy)]
+#[derive(Clone, Copy, Debug, PartialEq, Eq)]
 pub enum Request {
     // The head's words.
     Recall,
@@ -28,12 +29,14 @@ pub enum Request {
     Publish,
     // A row of so many bytes of the buffer.
     Show { bytes: u64 },
-    // The command has ended: 0 done, otherwise refused.
-    Finish { reply: u64 },
+    // The command has ended and is done.
+    Done,
+    // The command has ended and is refused.
+    Refuse { number: u64 },
 }
 
 // What is being served.
-#[derive(Clone, Copy)]
+#[derive(Clone, Copy, Debug, PartialEq, Eq)]
 pub enum Serving {
     Idle,
     Recalling,
@@ -50,7 +53,7 @@ pub enum Serving {
 }
 
 // The machine's registers: the number of pages in the ring, and what is being served.
-#[derive(Clone, Copy)]
+#[derive(Clone, Copy, Debug, PartialEq, Eq)]
 pub struct Machine {
     pub ring: u64,
     pub serving: Serving,
@@ -58,34 +61,27 @@ pub struct Machine {
 
 // A program over the tape. Memory begins with the buffer, where what is asked for comes, and from where pages are laid and rows are shown.
 pub trait Client {
-    ghost wakes: { Self → ℕ → ℕ → ℕ → Self };
-
-    ghost hears: { Self → List ℕ → List ℕ → Asked Self };
-
-    ghost resumes: { Self → List ℕ → Asked Self };
-
-    ghost loads: { List ℕ → Self };
-
-    ghost saves: { Self → List ℕ };
+    // What it does, and the cells that hold it.
+    ghost housed: { Housed Self };
 
     // The client that its cells hold, and the cells that hold it.
     fn load(cells: &[u64; 120]) -> Self
-        ensures { result ≡ loads cells.now };
+        ensures { result ≡ housed.load cells.now };
 
     fn save(&self) -> [u64; 120]
-        ensures { result ≡ saves self.now };
+        ensures { result ≡ housed.save self.now };
 
     // Power comes.
     fn wake(&mut self, house: u64, houses: u64, pages: u64)
-        ensures { self.new ≡ wakes self.old house houses pages };
+        ensures { self.new ≡ housed.program.wakes self.old house houses pages };
 
     // A command is said.
     fn hear(&mut self, memory: &mut [u64], text: &[u8]) -> Request
-        ensures { asked self.new memory.new result ≡ hears self.old memory.old text.now };
+        ensures { asked self.new memory.new result ≡ housed.program.hears self.old memory.old text.now };
 
     // What was asked for is done.
     fn resume(&mut self, memory: &mut [u64]) -> Request
-        ensures { asked self.new memory.new result ≡ resumes self.old memory.old };
+        ensures { asked self.new memory.new result ≡ housed.program.resumes self.old memory.old };
 }
 
 // The page of a virtual page.
@@ -113,8 +109,9 @@ fn serving_of(request: Request) -> Serving
             from: 64,
         },
         Request::Publish => Serving::Flushing,
-        Request::Show { bytes: _ } => Serving::Showing,
-        Request::Finish { reply: _ } => Serving::Idle,
+        Request::Show { .. } => Serving::Showing,
+        Request::Done => Serving::Idle,
+        Request::Refuse { .. } => Serving::Idle,
     }
 }
 
@@ -125,9 +122,9 @@ fn act_of(ring: u64, memory: &[u64], request: Request, out: &mut [u8]) -> Told
 {
     match request {
         Request::Recall => Told::Read(0),
-        Request::Look { at, words: _ } => Told::Read(place_of(ring, at / 64)),
-        Request::Object { at, limit: _ } => Told::Read(place_of(ring, at / 64)),
-        Request::Lay { page, pages: _ } => {
+        Request::Look { at, .. } => Told::Read(place_of(ring, at / 64)),
+        Request::Object { at, .. } => Told::Read(place_of(ring, at / 64)),
+        Request::Lay { page, .. } => {
             put_words(&memory[0..64], out);
             Told::Write(place_of(ring, page))
         }
@@ -137,34 +134,9 @@ fn act_of(ring: u64, memory: &[u64], request: Request, out: &mut [u8]) -> Told
             put_bytes(&memory[0..16_384], bytes as usize, out);
             Told::Shows(bytes)
         }
-        Request::Finish { reply } => {
-            if reply == 0 {
-                Told::Done
-            } else {
-                Told::No(reply)
-            }
-        }
+        Request::Done => Told::Done,
+        Request::Refuse { number } => Told::No(number),
     }
-}
-
-// A request is served from here on.
-fn begin(machine: &mut Machine, memory: &[u64], request: Request, out: &mut [u8]) -> Told
-    requires { (buffer_words ≤ length memory.now) × (row_bytes ≤ length out.old) }
-    ensures machine { machine.new.serving ≡ first_serving request }
-    ensures ring { machine.new.ring ≡ machine.old.ring }
-    ensures told { ActTold (first_act machine.old.ring memory.now request) result out.old out.new }
-{
-    machine.serving = serving_of(request);
-    act_of(machine.ring, memory, request, out)
-}
-
-// What was asked for is done: the client is asked again.
-fn ask<C: Client>(machine: &mut Machine, client: &mut C, memory: &mut [u64], out: &mut [u8]) -> Told
-    requires { (buffer_words ≤ length memory.old) × (row_bytes ≤ length out.old) }
-    ensures { Moves (begun machine.old.ring (C.resumes client.old memory.old)) machine.new client.new memory.new result out.old out.new }
-{
-    let request = client.resume(memory);
-    begin(machine, memory, request, out)
 }
 
 // Words of a page into the buffer, as far as they are wanted and there is room: how many.
@@ -183,186 +155,173 @@ fn take_words(at: u64, left: u64, got: u64, words: &[u64; 64], memory: &mut [u64
     many
 }
 
-// A page of what is looked at came.
-fn look_on<C: Client>(
-    machine: &mut Machine,
-    client: &mut C,
-    at: u64,
-    left: u64,
-    got: u64,
-    words: &[u64; 64],
-    memory: &mut [u64],
-    out: &mut [u8],
-) -> Told
-    requires { (buffer_words ≤ length memory.old) × (row_bytes ≤ length out.old) }
-    ensures { Moves (go_on (program C.wakes C.hears C.resumes) machine.old.ring client.old (looked at left got words.now memory.old)) machine.new client.new memory.new result out.old out.new }
-{
-    let many = take_words(at, left, got, words, memory);
-    if left <= many {
-        return ask(machine, client, memory, out);
+impl Machine {
+    // A request is served from here on.
+    fn begin(&mut self, memory: &[u64], request: Request, out: &mut [u8]) -> Told
+        requires { (buffer_words ≤ length memory.now) × (row_bytes ≤ length out.old) }
+        ensures machine { self.new.serving ≡ first_serving request }
+        ensures ring { self.new.ring ≡ self.old.ring }
+        ensures told { ActTold (first_act self.old.ring memory.now request) result out.old out.new }
+    {
+        self.serving = serving_of(request);
+        act_of(self.ring, memory, request, out)
     }
-    let at = at.saturating_add(many);
-    machine.serving = Serving::Looking {
-        at,
-        left: left - many,
-        got: got + many,
-    };
-    Told::Read(place_of(machine.ring, at / 64))
-}
 
-// Nothing is served any more.
-fn give_up(machine: &mut Machine) -> Told
-    ensures serving { machine.new.serving ≡ Serving.Idle }
-    ensures ring { machine.new.ring ≡ machine.old.ring }
-    ensures told { result ≡ Told.Done }
-{
-    machine.serving = Serving::Idle;
-    Told::Done
-}
-
-// The page came that was asked for.
-fn page_came<C: Client>(
-    machine: &mut Machine,
-    client: &mut C,
-    page: &[u8],
-    memory: &mut [u64],
-    out: &mut [u8],
-) -> Told
-    requires { (buffer_words ≤ length memory.old) × (row_bytes ≤ length out.old) }
-    ensures { Moves (page_came (program C.wakes C.hears C.resumes) machine.old.ring client.old memory.old (page_words page.now) machine.old.serving) machine.new client.new memory.new result out.old out.new }
-{
-    let words = page_words(page);
-    match machine.serving {
-        Serving::Recalling => {
-            memory[0..32].copy_from_slice(&words[0..32]);
-            ask(machine, client, memory, out)
-        }
-        Serving::Looking { at, left, got } => look_on(
-            machine, client, at, left, got, &words, memory, out,
-        ),
-        Serving::Opening { at, limit } => {
-            let header = words[(at % 64) as usize];
-            let wanted = (header % 4_294_967_296).min(limit).min(41_088).max(1);
-            look_on(machine, client, at, wanted, 0, &words, memory, out)
-        }
-        Serving::Idle => give_up(machine),
-        Serving::Laying {
-            page: _,
-            left: _,
-            from: _,
-        } => give_up(machine),
-        Serving::Flushing => give_up(machine),
-        Serving::Heading => give_up(machine),
-        Serving::Settling => give_up(machine),
-        Serving::Showing => give_up(machine),
+    // Nothing is served any more.
+    fn give_up(&mut self) -> Told
+        ensures serving { self.new.serving ≡ Serving.Idle }
+        ensures ring { self.new.ring ≡ self.old.ring }
+        ensures told { result ≡ Told.Done }
+    {
+        self.serving = Serving::Idle;
+        Told::Done
     }
 }
 
-// A page of the buffer was laid: the next one, or the client is asked again.
-fn lay_on<C: Client>(
-    machine: &mut Machine,
-    client: &mut C,
-    page: u64,
-    left: u64,
-    from: u64,
-    memory: &mut [u64],
-    out: &mut [u8],
-) -> Told
-    requires { (buffer_words ≤ length memory.old) × (row_bytes ≤ length out.old) }
-    ensures { Moves (laid_on (program C.wakes C.hears C.resumes) machine.old.ring client.old memory.old page left from) machine.new client.new memory.new result out.old out.new }
-{
-    if left == 0 || from > 41_024 {
-        return ask(machine, client, memory, out);
-    }
-    let next = page.saturating_add(1);
-    put_words(&memory[from as usize..from as usize + 64], out);
-    machine.serving = Serving::Laying {
-        page: next,
-        left: left - 1,
-        from: from + 64,
-    };
-    Told::Write(place_of(machine.ring, next))
+// A client, and the machine that serves it. Its memory and the row of bytes are lent to each step.
+// As it stands: a struct around these two would owe in each method that they stay the same loans, in place of the clause on their lengths that it saves.
+#[derive(Drop)]
+pub struct Server<C> {
+    pub machine: Machine,
+    pub client: C,
 }
 
-// The last act is done.
-fn act_done<C: Client>(
-    machine: &mut Machine,
-    client: &mut C,
-    memory: &mut [u64],
-    out: &mut [u8],
-) -> Told
-    requires { (buffer_words ≤ length memory.old) × (row_bytes ≤ length out.old) }
-    ensures { Moves (act_done (program C.wakes C.hears C.resumes) machine.old.ring client.old memory.old machine.old.serving) machine.new client.new memory.new result out.old out.new }
-{
-    match machine.serving {
-        Serving::Laying { page, left, from } => lay_on(
-            machine, client, page, left, from, memory, out,
-        ),
-        Serving::Flushing => {
-            put_head(&memory[0..32], out);
-            machine.serving = Serving::Heading;
-            Told::Write(0)
-        }
-        Serving::Heading => {
-            machine.serving = Serving::Settling;
-            Told::Flush
-        }
-        Serving::Settling => ask(machine, client, memory, out),
-        Serving::Showing => ask(machine, client, memory, out),
-        Serving::Idle => give_up(machine),
-        Serving::Recalling => give_up(machine),
-        Serving::Looking {
-            at: _,
-            left: _,
-            got: _,
-        } => give_up(machine),
-        Serving::Opening { at: _, limit: _ } => give_up(machine),
+impl<C: Client> Server<C> {
+    // What was asked for is done: the client is asked again.
+    fn ask(&mut self, memory: &mut [u64], out: &mut [u8]) -> Told
+        requires { (buffer_words ≤ length memory.old) × (row_bytes ≤ length out.old) }
+        ensures { Moves (begun self.old.machine.ring (C.housed.program.resumes self.old.client memory.old)) self.new.machine self.new.client memory.new result out.old out.new }
+    {
+        let request = self.client.resume(memory);
+        self.machine.begin(memory, request, out)
     }
-}
 
-// One step: what comes is taken in, and one act is told.
-pub fn serve<C: Client>(
-    machine: &mut Machine,
-    client: &mut C,
-    memory: &mut [u64],
-    event: Event,
-    out: &mut [u8],
-) -> Told
-    ensures { ServeSays (serve_fits memory.old out.old) (program C.wakes C.hears C.resumes) machine.old client.old memory.old (event_meant event.entry) out.old result machine.new client.new memory.new out.new }
-{
-    if memory.len() < BUFFER || out.len() < ROW {
-        return Told::No(0);
+    // A page of what is looked at came.
+    fn look_on(
+        &mut self,
+        at: u64,
+        left: u64,
+        got: u64,
+        words: &[u64; 64],
+        memory: &mut [u64],
+        out: &mut [u8],
+    ) -> Told
+        requires { (buffer_words ≤ length memory.old) × (row_bytes ≤ length out.old) }
+        ensures { Moves (go_on C.housed.program self.old.machine.ring self.old.client (looked at left got words.now memory.old)) self.new.machine self.new.client memory.new result out.old out.new }
+    {
+        let many = take_words(at, left, got, words, memory);
+        if left <= many {
+            return self.ask(memory, out);
+        }
+        let at = at.saturating_add(many);
+        self.machine.serving = Serving::Looking {
+            at,
+            left: left - many,
+            got: got + many,
+        };
+        Told::Read(place_of(self.machine.ring, at / 64))
     }
-    take_in(machine, client, memory, event, out)
-}
 
-fn take_in<C: Client>(
-    machine: &mut Machine,
-    client: &mut C,
-    memory: &mut [u64],
-    event: Event,
-    out: &mut [u8],
-) -> Told
-    requires { (buffer_words ≤ length memory.old) × (row_bytes ≤ length out.old) }
-    ensures { Moves (served (program C.wakes C.hears C.resumes) machine.old client.old memory.old (event_meant event.entry)) machine.new client.new memory.new result out.old out.new }
-{
-    match event {
-        Event::On {
-            house,
-            houses,
-            pages,
-        } => {
-            client.wake(house, houses, pages);
-            machine.ring = pages.saturating_sub(1).max(1);
-            give_up(machine)
+    // The page came that was asked for.
+    fn page_came(&mut self, page: &[u8], memory: &mut [u64], out: &mut [u8]) -> Told
+        requires { (buffer_words ≤ length memory.old) × (row_bytes ≤ length out.old) }
+        ensures { Moves (page_came C.housed.program self.old.machine.ring self.old.client memory.old (page_words page.now) self.old.machine.serving) self.new.machine self.new.client memory.new result out.old out.new }
+    {
+        let words = page_words(page);
+        match self.machine.serving {
+            Serving::Recalling => {
+                memory[0..32].copy_from_slice(&words[0..32]);
+                self.ask(memory, out)
+            }
+            Serving::Looking { at, left, got } => self.look_on(at, left, got, &words, memory, out),
+            Serving::Opening { at, limit } => {
+                let header = words[(at % 64) as usize];
+                let wanted = (header % 4_294_967_296).min(limit).min(41_088).max(1);
+                self.look_on(at, wanted, 0, &words, memory, out)
+            }
+            _ => self.machine.give_up(),
         }
-        Event::Said(text) => {
-            let request = client.hear(memory, text);
-            begin(machine, memory, request, out)
+    }
+
+    // A page of the buffer was laid: the next one, or the client is asked again.
+    fn lay_on(
+        &mut self,
+        page: u64,
+        left: u64,
+        from: u64,
+        memory: &mut [u64],
+        out: &mut [u8],
+    ) -> Told
+        requires { (buffer_words ≤ length memory.old) × (row_bytes ≤ length out.old) }
+        ensures { Moves (laid_on C.housed.program self.old.machine.ring self.old.client memory.old page left from) self.new.machine self.new.client memory.new result out.old out.new }
+    {
+        if left == 0 || from > 41_024 {
+            return self.ask(memory, out);
         }
-        Event::Page(page) => page_came(machine, client, page, memory, out),
-        Event::Next => act_done(machine, client, memory, out),
-        Event::Heard(_) => give_up(machine),
-        Event::Lost => give_up(machine),
+        let next = page.saturating_add(1);
+        put_words(&memory[from as usize..from as usize + 64], out);
+        self.machine.serving = Serving::Laying {
+            page: next,
+            left: left - 1,
+            from: from + 64,
+        };
+        Told::Write(place_of(self.machine.ring, next))
+    }
+
+    // The last act is done.
+    fn act_done(&mut self, memory: &mut [u64], out: &mut [u8]) -> Told
+        requires { (buffer_words ≤ length memory.old) × (row_bytes ≤ length out.old) }
+        ensures { Moves (act_done C.housed.program self.old.machine.ring self.old.client memory.old self.old.machine.serving) self.new.machine self.new.client memory.new result out.old out.new }
+    {
+        match self.machine.serving {
+            Serving::Laying { page, left, from } => self.lay_on(page, left, from, memory, out),
+            Serving::Flushing => {
+                put_head(&memory[0..32], out);
+                self.machine.serving = Serving::Heading;
+                Told::Write(0)
+            }
+            Serving::Heading => {
+                self.machine.serving = Serving::Settling;
+                Told::Flush
+            }
+            Serving::Settling => self.ask(memory, out),
+            Serving::Showing => self.ask(memory, out),
+            _ => self.machine.give_up(),
+        }
+    }
+
+    // One step: what comes is taken in, and one act is told.
+    pub fn serve(&mut self, memory: &mut [u64], event: Event, out: &mut [u8]) -> Told
+        ensures { ServeSays (serve_fits memory.old out.old) C.housed.program self.old.machine self.old.client memory.old (event_meant event.entry) out.old result self.new.machine self.new.client memory.new out.new }
+    {
+        if memory.len() < BUFFER || out.len() < ROW {
+            return Told::No(0);
+        }
+        self.take_in(memory, event, out)
+    }
+
+    fn take_in(&mut self, memory: &mut [u64], event: Event, out: &mut [u8]) -> Told
+        requires { (buffer_words ≤ length memory.old) × (row_bytes ≤ length out.old) }
+        ensures { Moves (served C.housed.program self.old.machine self.old.client memory.old (event_meant event.entry)) self.new.machine self.new.client memory.new result out.old out.new }
+    {
+        match event {
+            Event::On {
+                house,
+                houses,
+                pages,
+            } => {
+                self.client.wake(house, houses, pages);
+                self.machine.ring = pages.saturating_sub(1).max(1);
+                self.machine.give_up()
+            }
+            Event::Said(text) => {
+                let request = self.client.hear(memory, text);
+                self.machine.begin(memory, request, out)
+            }
+            Event::Page(page) => self.page_came(page, memory, out),
+            Event::Next => self.act_done(memory, out),
+            Event::Heard(_) => self.machine.give_up(),
+            Event::Lost => self.machine.give_up(),
+        }
     }
 }

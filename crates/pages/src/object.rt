@@ -2,6 +2,7 @@
 ghost use Rattle.std.specs.Prelude.{◌≡◌};
 ghost use Rattle.pages.specs.Object.{heading as heading_of, kind_in, references_in, size_in};
 
+// As it stands: a number for the kind, since which kinds there are is for those who lay objects to say.
 pub fn heading(kind: u16, references: u16, size: u32) -> u64
     ensures { result ≡ heading_of kind references size }
 {

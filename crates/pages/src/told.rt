@@ -1,7 +1,7 @@
 // What the machine is told, and what it tells to do.
 
 // What comes to the machine; a command, a page or a letter is lent.
-#[derive(Clone, Copy)]
+#[derive(Clone, Copy, Debug, PartialEq, Eq)]
 pub enum Event<'a> {
     // Power is there: the house's number, how many houses there are, how many pages it has.
     On { house: u64, houses: u64, pages: u64 },
@@ -18,7 +18,7 @@ pub enum Event<'a> {
 }
 
 // One act. A page, a row or a letter lies at the front of the lent row of bytes.
-#[derive(Clone, Copy)]
+#[derive(Clone, Copy, Debug, PartialEq, Eq)]
 pub enum Told {
     Read(u64),
     Write(u64),
@@ -28,5 +28,6 @@ pub enum Told {
     // 4,097 times the house and so many bytes.
     Send(u64),
     Done,
+    // As it stands: a number, since an act is defined with one; 0 is told where memory or the row does not fit.
     No(u64),
 }

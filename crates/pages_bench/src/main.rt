@@ -3,75 +3,53 @@
 
 mod mover;
 
+use device::Page;
+use device::desk::Desk;
 use mover::Mover;
 use pages::told::{Event, Told};
 use std::alloc::{AllocError, Global};
 use std::time::Instant;
 
+const PAGES: usize = 256;
+
+// A desk, and pages on which each write comes in at once.
 #[derive(Drop)]
 struct Bench {
-    memory: Vec<u64>,
-    out: Vec<u8>,
-    pages: Vec<[u8; 512]>,
-}
-
-fn on<'a>() -> Event<'a> {
-    Event::On {
-        house: 0,
-        houses: 1,
-        pages: 256,
-    }
-}
-
-fn next<'a>() -> Event<'a> {
-    Event::Next
-}
-
-fn as_page(bytes: &[u8]) -> [u8; 512] {
-    let mut page = [0; 512];
-    if bytes.len() >= 512 {
-        page.copy_from_slice(&bytes[0..512]);
-    }
-    page
+    desk: Desk,
+    pages: Vec<Page>,
 }
 
 impl Bench {
     fn new(heap: Global) -> Result<Bench, AllocError> {
+        let mut desk = Desk::new(heap)?;
+        let _ = desk.power::<Mover>(PAGES as u64);
         Ok(Bench {
-            memory: vec![in heap; 0u64; 262_144]?,
-            out: vec![in heap; 0u8; 131_072]?,
-            pages: vec![in heap; [0u8; 512]; 256]?,
+            desk,
+            pages: vec![in heap; [0u8; 512]; PAGES]?,
         })
-    }
-
-    fn step(&mut self, event: Event) -> Told {
-        let memory = self.memory.as_mut_slice();
-        let out = self.out.as_mut_slice();
-        pages::cells::step::<Mover>(memory, event, out)
     }
 
     fn act(&mut self, told: Told) -> Told {
         match told {
             Told::Read(k) => {
                 let page = self.pages.get(k as usize).copied().unwrap_or([0; 512]);
-                self.step(Event::Page(&page))
+                return self.desk.tell::<Mover>(Event::Page(&page));
             }
             Told::Write(k) => {
-                let page = as_page(self.out.as_slice());
-                if (k as usize) < self.pages.len() {
-                    self.pages[k as usize] = page;
+                if let Some(page) = self.pages.get_mut(k as usize) {
+                    *page = self.desk.page();
                 }
-                self.step(next())
             }
-            _ => self.step(next()),
+            _ => {}
         }
+        self.desk.tell::<Mover>(Event::Next)
     }
 
     // A thousand requests: how many acts they took.
     fn thousand(&mut self, text: &[u8]) -> u64 {
-        let mut told = self.step(Event::Said(text));
+        let mut told = self.desk.tell::<Mover>(Event::Said(text));
         for acts in 0..1_000_000u64 {
-            if let Told::Done = told {
+            if told == Told::Done {
                 return acts;
             }
             told = self.act(told);
@@ -82,7 +60,6 @@ impl Bench {
 
 fn main(rt: HostRuntime) -> std::io::Result<()> {
     let mut bench = Bench::new(rt.alloc())?;
-    let _ = bench.step(on());
     let start = Instant::now(&rt)?;
     let lays = bench.thousand(&[]);
     let laid = start.elapsed(&rt)?.as_micros();

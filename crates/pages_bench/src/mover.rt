@@ -1,36 +1,29 @@
 // A client that lays or looks at 64 KiB again and again, to measure.
-ghost use Rattle.pages_bench.specs.Mover.{mover_wakes, mover_hears, mover_resumes, mover_loads, mover_saves};
+ghost use Rattle.pages_bench.specs.Mover.{mover_client};
 
 use pages::machine::{Client, Request};
 
 #[derive(Clone, Copy)]
 pub struct Mover {
-    // Not 0 where it looks, and how often it goes on.
-    looks: u64,
+    // Whether it looks, and how often it goes on.
+    looks: bool,
     left: u64,
 }
 
 impl Client for Mover {
-    ghost wakes = { mover_wakes };
-
-    ghost hears = { mover_hears };
-
-    ghost resumes = { mover_resumes };
-
-    ghost loads = { mover_loads };
-
-    ghost saves = { mover_saves };
+    ghost housed = { mover_client };
 
     fn load(cells: &[u64; 120]) -> Mover {
+        let [looks, left, ..] = *cells;
         Mover {
-            looks: cells[0],
-            left: cells[1],
+            looks: looks != 0,
+            left,
         }
     }
 
     fn save(&self) -> [u64; 120] {
         let mut cells = [0; 120];
-        cells[0] = self.looks;
+        cells[0] = u64::from(self.looks);
         cells[1] = self.left;
         cells
     }
@@ -39,7 +32,7 @@ impl Client for Mover {
 
     fn hear(&mut self, memory: &mut [u64], text: &[u8]) -> Request {
         *self = Mover {
-            looks: text.len() as u64,
+            looks: !text.is_empty(),
             left: 1000,
         };
         self.resume(memory)
@@ -47,16 +40,16 @@ impl Client for Mover {
 
     fn resume(&mut self, memory: &mut [u64]) -> Request {
         if self.left == 0 {
-            return Request::Finish { reply: 0 };
+            return Request::Done;
         }
         self.left -= 1;
-        if self.looks == 0 {
+        if self.looks {
+            Request::Look { at: 0, words: 8192 }
+        } else {
             Request::Lay {
                 page: 0,
                 pages: 128,
             }
-        } else {
-            Request::Look { at: 0, words: 8192 }
         }
     }
 }

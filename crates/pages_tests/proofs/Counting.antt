@@ -9,12 +9,13 @@ use Rattle.pages.specs.Crash.{Rows}
 use Rattle.pages.specs.Engine.{bulk_cells}
 use Rattle.pages.specs.Machine.{Asked, asked}
 use Rattle.pages.specs.Tape.{first_page, last_page, published, Window, Does, recalls, looks, lays, publishes, rows, finishes}
-use Rattle.pages.specs.declared.machine.Request.TheVariants.{Look, Lay, Publish, Show, Finish}
+use Rattle.pages.specs.declared.machine.Request.TheVariants.{Look, Lay, Publish, Show, Done}
 use Rattle.pages.proofs.ListLaws.{pick_true, pick_false}
 use Rattle.pages.proofs.BytesLaws.{length_eight}
 use Rattle.pages.proofs.WordLaws.{length_over}
 use Rattle.pages_tests.specs.Counter.{counter, counter_hears, counter_resumes, laid, counting, Counted, CountsUp}
 use Rattle.pages_tests.specs.declared.counter.Counter.{Counter}
+use Rattle.pages_tests.specs.declared.counter.Phase.TheVariants.{Recalling, Looking, Laying, Publishing, Showing}
 
 -- the first eight bytes of a row whose first word is set
 row_is : (m : List ℕ) (x : ℕ) → 1 ≤ length m → take 8 (bytes_of (take 16384 (set m 0 x))) ≡ eight x
@@ -49,13 +50,13 @@ module _ (n c : ℕ) (two : 2 ≤ n) (below : c + 1 < 18446744073709551615) wher
 
   -- the number is shown, and that is all
   showing : (last : ℕ) (m h t : List ℕ) (laid : ℕ) → length m ≡ bulk_cells → Counted h (published h t) (c + 1) →
-      Well (counter_resumes (counter 4 last (c + 1)) m) h t laid []
+      Well (counter_resumes (counter Publishing last (c + 1)) m) h t laid []
   unfolding Well Stop End
   showing last m h t laid l st =
       phase m _ _ h t laid [] l
-      (rows (asked (counter 5 last (c + 1)) m₁ (Show 8)) h t laid [] 8 refl (omega arith) (inr st)
+      (rows (asked (counter Showing last (c + 1)) m₁ (Show 8)) h t laid [] 8 refl (omega arith) (inr st)
       (phase m₁ _ _ h t laid _ (length-set m 0 (c + 1) ∙ l)
-      (finishes (asked (counter 5 last (c + 1)) m₁ (Finish 0)) h t laid _ 0 refl (omega arith)
+      (finishes (asked (counter Showing last (c + 1)) m₁ Done) h t laid _ 0 refl (omega arith)
       (refl, ap (λ (x : List ℕ). x ∷ []) (row_is m (c + 1) (omega arith)), st))))
     where
       m₁ : List ℕ
@@ -63,11 +64,11 @@ module _ (n c : ℕ) (two : 2 ≤ n) (below : c + 1 < 18446744073709551615) wher
 
   -- the page is laid: the head is published
   publishing : (v laid : ℕ) (m h t : List ℕ) → laid ≡ suc v → length m ≡ bulk_cells → first_page h ≤ v → length t ≡ 64 * suc v → get_or t (64 * v) 0 ≡ c + 1 → v + 1 < 18446744073709551615 →
-      Well (counter_resumes (counter 3 v (c + 1)) m) h t laid []
+      Well (counter_resumes (counter Laying v (c + 1)) m) h t laid []
   unfolding Well Stop End
   publishing v laid m h t many l lo lt num small =
       phase m _ _ h t laid [] l
-      (publishes (asked (counter 4 v (c + 1)) m₁ Publish) h t laid [] refl (omega (arith, w.0)) (omega (arith, w.0, w.1)) (omega (arith, w.1)) (inr st)
+      (publishes (asked (counter Publishing v (c + 1)) m₁ Publish) h t laid [] refl (omega (arith, w.0)) (omega (arith, w.0, w.1)) (omega (arith, w.1)) (inr st)
       (showing v m₁ (take 32 m₁) t laid (length-set (set m 0 v) 1 next ∙ length-set m 0 v ∙ l) st))
     where
       next : ℕ
@@ -87,10 +88,10 @@ module _ (n c : ℕ) (two : 2 ≤ n) (below : c + 1 < 18446744073709551615) wher
 
   -- the number is one higher at the front of the buffer: it is laid
   laying : (v : ℕ) (m h t : List ℕ) → length m ≡ bulk_cells → first_page h ≤ v → v + 1 ≤ first_page h + n → length t ≡ 64 * v → 64 * (v + 2) < 18446744073709551615 →
-      Well (asked (counter 3 v (c + 1)) (set m 0 (c + 1)) (Lay v 1)) h t v []
+      Well (asked (counter Laying v (c + 1)) (set m 0 (c + 1)) (Lay v 1)) h t v []
   unfolding Well
   laying v m h t l lo room lt bound =
-      lays (asked (counter 3 v (c + 1)) m₁ (Lay v 1)) h t v [] 1 refl (omega arith) (omega arith) room (omega arith)
+      lays (asked (counter Laying v (c + 1)) m₁ (Lay v 1)) h t v [] 1 refl (omega arith) (omega arith) room (omega arith)
       (publishing v (v + 1) m₁ h (t ++ take 64 m₁) (omega arith) l₁ lo (omega (arith, length-append t (take 64 m₁), length-take-le 64 m₁ (omega (arith, l₁))))
       (get_or-append_right t (take 64 m₁) (64 * v) (64 * v) 0 lt (omega arith) ∙ first_is) (omega arith))
     where
@@ -107,23 +108,23 @@ module _ (n c : ℕ) (two : 2 ≤ n) (below : c + 1 < 18446744073709551615) wher
 
   -- the number is there
   counting_on : (v : ℕ) (m h t : List ℕ) → length m ≡ bulk_cells → get_or m 0 0 ≡ c → first_page h ≤ v → v + 1 ≤ first_page h + n → length t ≡ 64 * v →
-      64 * (v + 2) < 18446744073709551615 → Well (counter_resumes (counter 2 v 0) m) h t v []
+      64 * (v + 2) < 18446744073709551615 → Well (counter_resumes (counter Looking v 0) m) h t v []
   unfolding Well
   counting_on v m h t l num lo room lt bound =
       let e : min (get_or m 0 0 + 1) 18446744073709551615 ≡ c + 1 = omega arith in
       phase m _ _ h t v [] l
-      (subst (λ (x : ℕ). Does counting n Stop End (asked (counter 3 v x) (set m 0 x) (Lay v 1)) h t v []) (sym e) (laying v m h t l lo room lt bound))
+      (subst (λ (x : ℕ). Does counting n Stop End (asked (counter Laying v x) (set m 0 x) (Lay v 1)) h t v []) (sym e) (laying v m h t l lo room lt bound))
 
   -- the head is there
   recalling : (m h t : List ℕ) → length m ≡ bulk_cells → Window n h t (last_page h) → Counted h t c → 64 * (last_page h + 2) < 18446744073709551615 →
-      Well (counter_resumes (counter 1 0 0) (over 0 h m)) h t (last_page h) []
+      Well (counter_resumes (counter Recalling 0 0) (over 0 h m)) h t (last_page h) []
   unfolding Well Stop End
   recalling m h t l win (inl (zero-c, zero-f, zero-l)) bound =
       let last_is : get_or (over 0 h m) 1 0 ≡ 0 = word_over h m 1 (omega (arith, win.head_length)) ∙ zero-l in
       let one : c + 1 ≡ 1 = omega arith in
       phase (over 0 h m) _ _ h t (last_page h) [] (length_over 0 h m (omega (arith, win.head_length)) ∙ l)
       (subst (λ (x : Asked Counter). Does counting n Stop End x h t (last_page h) []) (sym (pick_true (eqb (get_or (over 0 h m) 1 0) 0) _ _ (eq-eqb (get_or (over 0 h m) 1 0) 0 last_is)))
-      (subst₂ (λ (x j : ℕ). Does counting n Stop End (asked (counter 3 0 x) (set (over 0 h m) 0 x) (Lay 0 1)) h t j []) one (sym zero-l)
+      (subst₂ (λ (x j : ℕ). Does counting n Stop End (asked (counter Laying 0 x) (set (over 0 h m) 0 x) (Lay 0 1)) h t j []) one (sym zero-l)
       (laying 0 (over 0 h m) h t (length_over 0 h m (omega (arith, win.head_length)) ∙ l) (omega arith) (omega arith) (omega (arith, win.tape_length)) (omega arith))))
   recalling m h t l win (inr (v, first, last, num)) bound =
       let last_is : get_or (over 0 h m) 1 0 ≡ suc v = word_over h m 1 (omega (arith, win.head_length)) ∙ last in
@@ -134,10 +135,10 @@ module _ (n c : ℕ) (two : 2 ≤ n) (below : c + 1 < 18446744073709551615) wher
       phase (over 0 h m) _ _ h t (last_page h) [] l₁
       (subst (λ (x : Asked Counter). Does counting n Stop End x h t (last_page h) [])
       (sym (pick_false (eqb (get_or (over 0 h m) 1 0) 0) _ _ (ne_eqb (get_or (over 0 h m) 1 0) 0 (λ z. omega arith))))
-      (subst (λ (x : ℕ). Does counting n Stop End (asked (counter 2 x 0) (over 0 h m) (Look (min (64 * (x - 1)) 18446744073709551615) 1)) h t (last_page h) []) (sym last_is)
-      (subst (λ (x : ℕ). Does counting n Stop End (asked (counter 2 (suc v) 0) (over 0 h m) (Look x 1)) h t (last_page h) []) (sym at_is)
-      (looks (asked (counter 2 (suc v) 0) (over 0 h m) (Look (64 * v) 1)) h t (last_page h) [] (64 * v) 1 refl (omega arith) (omega arith) (omega arith) (omega arith)
-      (λ s. subst (λ (j : ℕ). Does counting n Stop End (counter_resumes (counter 2 (suc v) 0) (over 0 word (over 0 h m))) h t j []) (sym last)
+      (subst (λ (x : ℕ). Does counting n Stop End (asked (counter Looking x 0) (over 0 h m) (Look (min (64 * (x - 1)) 18446744073709551615) 1)) h t (last_page h) []) (sym last_is)
+      (subst (λ (x : ℕ). Does counting n Stop End (asked (counter Looking (suc v) 0) (over 0 h m) (Look x 1)) h t (last_page h) []) (sym at_is)
+      (looks (asked (counter Looking (suc v) 0) (over 0 h m) (Look (64 * v) 1)) h t (last_page h) [] (64 * v) 1 refl (omega arith) (omega arith) (omega arith) (omega arith)
+      (λ s. subst (λ (j : ℕ). Does counting n Stop End (counter_resumes (counter Looking (suc v) 0) (over 0 word (over 0 h m))) h t j []) (sym last)
       (counting_on (suc v) (over 0 word (over 0 h m)) h t (length_over 0 word (over 0 h m) (omega arith) ∙ l₁)
       (word_over word (over 0 h m) 0 (omega arith) ∙ get_or-take 1 (drop (64 * v) t) 0 0 (omega arith) ∙ get_or-drop (64 * v) t 0 0
       ∙ (let z : 64 * v + 0 ≡ 64 * v = omega arith in ap (λ (i : ℕ). get_or t i 0) z) ∙ num)

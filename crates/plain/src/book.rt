@@ -26,9 +26,7 @@ fn put_row(out: &mut Vec<u8>, bytes: &[u8]) -> Result<(), AllocError> {
 }
 
 fn sum_of(bytes: &[u8]) -> [u8; 32] {
-    let mut out = [0u8; 32];
-    sum(bytes, &mut out);
-    out
+    sum(bytes)
 }
 
 fn put_tree(out: &mut Vec<u8>, tree: &Tree) -> Result<(), AllocError> {

@@ -1,9 +1,11 @@
 -- Laws of the bitmap. Assumes nothing.
-use Rattle.std.proofs.Common.{◌≡◌, ℕ, zero, suc, ◌+◌, ◌-◌, ◌*◌, ◌/◌, ◌%◌, ◌^◌, ◌<◌, ◌≤◌, max, Bool, true, false, ◌&&◌, eqb, ltb, ◌⊎◌, List, [], ◌∷◌, length, get_or, set, replicate, Some, None, Option, sym, refl, ap, ◌∙◌, subst, ap₂, inl, inr, pow-suc, arith, length-set, pow-add}
-use native.Mathlib.Nat.{zero-div, div-eq_of_lt}
-use lib.Bits.{bit_or, or_lt, or_shr, or_step}
-use Rattle.std.proofs.lemmas.Nat.{shl-shr, pow_below}
-use Rattle.std.proofs.lemmas.List.{get_or_past, set_past, get_or-set_same, get_or-set_other}
+use Rattle.std.proofs.Common.{◌≡◌, ℕ, zero, suc, ◌+◌, ◌*◌, ◌/◌, ◌%◌, ◌^◌, ◌<◌, ◌≤◌, ◌≢◌, max, Bool, true, false, ◌&&◌, eqb, ltb, ◌⊎◌, List, [], ◌∷◌, length, get_or, set, replicate, Some, None, Option, sym, refl, ap, ◌∙◌, subst, inl, inr, arith, length-set}
+use lib.Bits.{bit_or, or_lt}
+use lib.ListN.{length-replicate}
+use Rattle.std.specs.Int.{bit_at}
+use Rattle.std.proofs.lemmas.Nat.{pow_below}
+use Rattle.std.proofs.lemmas.Nat.Bits.{bit_at-zero, bit_at-lt, bit_at_or, bit_at-pow_same, bit_at-pow_other}
+use Rattle.std.proofs.lemmas.List.{get_or_past, set_past, get_or-set_same, get_or-set_other, get_or-replicate}
 use Rattle.std.proofs.lemmas.Bool.{cases_lt, cases_eq, eq-eqb, ne_eqb, lt-ltb, le-ltb, and_left, and_right, and_from}
 use Rattle.pages.specs.Lists.{pick, or, zeros}
 use Rattle.pages.specs.Words.{small}
@@ -11,53 +13,15 @@ use Rattle.pages.proofs.WordLaws.{small_first, small_from, small_get_or}
 use Rattle.store.specs.Bitmap.{bit, with_bit, with_run, highest, lowest, BitsSet, RunSet, HighestIs, LowestIs, Finds, AllClear}
 
 pub bit_past : (ws : List ℕ) (u : ℕ) → length ws ≤ u / 64 → bit ws u ≡ false
-bit_past ws u h = ap (λ w. eqb (w / 2 ^ (u % 64) % 2) 1) (get_or_past ws (u / 64) 0 h) ∙ ap (λ w. eqb (w % 2) 1) (zero-div (2 ^ (u % 64)))
-
-pub get_or_zeros : (n i : ℕ) → get_or (zeros n) i 0 ≡ 0
-unfolding zeros
-get_or_zeros zero i = refl
-get_or_zeros (suc n) zero = refl
-get_or_zeros (suc n) (suc i) = get_or_zeros n i
-
--- a power's bits
-pow_bit_same : (k : ℕ) → 2 ^ k / 2 ^ k % 2 ≡ 1
-pow_bit_same k = ap (λ x. x / 2 ^ k % 2) (let e : 2 ^ k ≡ 1 * 2 ^ k = omega arith in e) ∙ ap (λ x. x % 2) (shl-shr 1 k)
-
-pow_bit_other : (j k : ℕ) → (j ≡ k → ⊥) → 2 ^ j / 2 ^ k % 2 ≡ 0
-pow_bit_other j k ne = go (cases_lt j k)
-  where
-    above : (d : ℕ) → 2 ^ (suc d + k) / 2 ^ k % 2 ≡ 0
-    above d = ap (λ x. x / 2 ^ k % 2) (pow-add 2 (suc d) k) ∙ ap (λ x. x % 2) (shl-shr (2 ^ suc d) k) ∙ ap (λ x. x % 2) (pow-suc 2 d) ∙ omega arith
-
-    go : (j < k) ⊎ (k ≤ j) → 2 ^ j / 2 ^ k % 2 ≡ 0
-    go (inl h) = ap (λ x. x % 2) (div-eq_of_lt (pow_below j k h))
-    go (inr h) =
-        let more : k < j = go₁ (cases_eq j k) h in
-        let e : suc (j - k - 1) + k ≡ j = omega arith in subst (λ x. 2 ^ x / 2 ^ k % 2 ≡ 0) e (above (j - k - 1))
-      where
-        go₁ : (j ≡ k) ⊎ (j ≡ k → ⊥) → k ≤ j → k < j
-        go₁ (inl e) l = absurd (ne e)
-        go₁ (inr n) l = omega arith
-
-or_bit : (a b k : ℕ) → bit_or a b / 2 ^ k % 2 ≡ max (a / 2 ^ k % 2) (b / 2 ^ k % 2)
-or_bit a b k =
-    let x : ℕ = a / 2 ^ k in
-    let y : ℕ = b / 2 ^ k in
-    let s : bit_or x y ≡ bit_or (x / 2) (y / 2) * 2 + max (x % 2) (y % 2) = or_step x y in ap (λ z. z % 2) (or_shr a b k) ∙ omega (arith, s)
-
-one_bit : (w k : ℕ) → eqb (max (w / 2 ^ k % 2) 1) 1 ≡ true
-one_bit w k = let e : max (w / 2 ^ k % 2) 1 ≡ 1 = omega arith in eq-eqb (max (w / 2 ^ k % 2) 1) 1 e
-
-no_bit : (w k : ℕ) → max (w / 2 ^ k % 2) 0 ≡ w / 2 ^ k % 2
-no_bit w k = omega arith
+bit_past ws u h = ap (λ w. eqb (bit_at w (u % 64)) 1) (get_or_past ws (u / 64) 0 h) ∙ ap (λ b. eqb b 1) (bit_at-zero (u % 64))
 
 -- a bit set, and the others as they were
 pub set_here : (ws : List ℕ) (u : ℕ) → u / 64 < length ws → bit (with_bit ws u) u ≡ true
 set_here ws u h =
     let w : ℕ = get_or ws (u / 64) 0 in
     let k : ℕ = u % 64 in
-    ap (λ x. eqb (x / 2 ^ k % 2) 1) (get_or-set_same ws (u / 64) (bit_or w (2 ^ k)) 0 h)
-    ∙ ap (λ x. eqb x 1) (or_bit w (2 ^ k) k ∙ ap (λ x. max (w / 2 ^ k % 2) x) (pow_bit_same k)) ∙ one_bit w k
+    let e : bit_at (bit_or w (2 ^ k)) k ≡ 1 = bit_at_or w (2 ^ k) k ∙ ap (max (bit_at w k)) (bit_at-pow_same k) ∙ omega (arith, bit_at-lt w k) in
+    ap (λ x. eqb (bit_at x k) 1) (get_or-set_same ws (u / 64) (bit_or w (2 ^ k)) 0 h) ∙ ap (λ x. eqb x 1) e
 
 pub set_elsewhere : (ws : List ℕ) (u v : ℕ) → (u ≡ v → ⊥) → bit (with_bit ws u) v ≡ bit ws v
 set_elsewhere ws u v ne = go (cases_eq (v / 64) (u / 64))
@@ -68,10 +32,10 @@ set_elsewhere ws u v ne = go (cases_eq (v / 64) (u / 64))
     inside : v / 64 ≡ u / 64 → (u / 64 < length ws) ⊎ (length ws ≤ u / 64) → bit (with_bit ws u) v ≡ bit ws v
     inside e (inl h) =
         let k : ℕ = v % 64 in
-        let apart : u % 64 ≡ k → ⊥ = λ x. ne (omega arith) in
-        ap (λ i. eqb (get_or (with_bit ws u) i 0 / 2 ^ k % 2) 1) e ∙ ap (λ x. eqb (x / 2 ^ k % 2) 1) (get_or-set_same ws (u / 64) (bit_or w (2 ^ (u % 64))) 0 h)
-        ∙ ap (λ x. eqb x 1) (or_bit w (2 ^ (u % 64)) k ∙ ap (λ x. max (w / 2 ^ k % 2) x) (pow_bit_other (u % 64) k apart) ∙ no_bit w k)
-        ∙ ap (λ i. eqb (get_or ws i 0 / 2 ^ k % 2) 1) (sym e)
+        let apart : k ≢ u % 64 = λ x. ne (omega arith) in
+        let f : bit_at (bit_or w (2 ^ (u % 64))) k ≡ bit_at w k = bit_at_or w (2 ^ (u % 64)) k ∙ ap (max (bit_at w k)) (bit_at-pow_other (u % 64) k apart) ∙ omega arith in
+        ap (λ i. eqb (bit_at (get_or (with_bit ws u) i 0) k) 1) e ∙ ap (λ x. eqb (bit_at x k) 1) (get_or-set_same ws (u / 64) (bit_or w (2 ^ (u % 64))) 0 h)
+        ∙ ap (λ x. eqb x 1) f ∙ ap (λ i. eqb (bit_at (get_or ws i 0) k) 1) (sym e)
     inside e (inr h) = ap (λ xs. bit xs v) (set_past ws (u / 64) (bit_or w (2 ^ (u % 64))) h)
 
     go : (v / 64 ≡ u / 64) ⊎ (v / 64 ≡ u / 64 → ⊥) → bit (with_bit ws u) v ≡ bit ws v
@@ -134,22 +98,6 @@ run_set (suc n) ws from v =
     go lo hi inside l later before (inr ne) = later (omega arith) (omega arith) (omega arith)
 
 -- SEARCHES
-pub highest_step : (p : ℕ → Bool) (u : ℕ) → p u ≡ false → highest p (suc u) ≡ highest p u
-unfolding highest
-highest_step p u e = ap (λ b. pick b (Some u) (highest p u)) e
-
-pub highest_here : (p : ℕ → Bool) (u : ℕ) → p u ≡ true → highest p (suc u) ≡ Some u
-unfolding highest
-highest_here p u e = ap (λ b. pick b (Some u) (highest p u)) e
-
-pub lowest_step : (p : ℕ → Bool) (n u : ℕ) → p u ≡ false → lowest p (suc n) u ≡ lowest p n (u + 1)
-unfolding lowest
-lowest_step p n u e = ap (λ b. pick b (Some u) (lowest p n (u + 1))) e
-
-pub lowest_here : (p : ℕ → Bool) (n u : ℕ) → p u ≡ true → lowest p (suc n) u ≡ Some u
-unfolding lowest
-lowest_here p n u e = ap (λ b. pick b (Some u) (lowest p n (u + 1))) e
-
 highest_finds : (p : ℕ → Bool) (n : ℕ) → HighestIs p n (highest p n)
 unfolding highest
 highest_finds p zero = λ v h. absurd (omega arith)
@@ -181,38 +129,6 @@ lowest_finds p (suc n) from = go (p from) refl (lowest p n (from + 1)) (lowest_f
 pub finds : Finds
 finds p n from = (highest_finds p n, lowest_finds p n from)
 
--- places without a bit are passed over
-pub highest_skip : (p : ℕ → Bool) (k u : ℕ) → ((v : ℕ) → u ≤ v → v < u + k → p v ≡ false) → highest p (u + k) ≡ highest p u
-highest_skip p zero u none = ap (highest p) (let e : u + 0 ≡ u = omega arith in e)
-highest_skip p (suc k) u none =
-    ap (highest p) (let e : u + suc k ≡ suc (u + k) = omega arith in e) ∙ step ∙ highest_skip p k u (λ v lo hi. none v lo (omega arith))
-  where
-    step : highest p (suc (u + k)) ≡ highest p (u + k)
-    step = highest_step p (u + k) (none (u + k) (omega arith) (omega arith))
-
-pub lowest_skip : (p : ℕ → Bool) (k n u : ℕ) → ((v : ℕ) → u ≤ v → v < u + k → p v ≡ false) → lowest p (k + n) u ≡ lowest p n (u + k)
-lowest_skip p zero n u none = ap₂ (lowest p) (let e : 0 + n ≡ n = omega arith in e) (let e : u ≡ u + 0 = omega arith in e)
-lowest_skip p (suc k) n u none =
-    ap (λ j. lowest p j u) (let e : suc k + n ≡ suc (k + n) = omega arith in e) ∙ lowest_step p (k + n) u (none u (omega arith) (omega arith))
-    ∙ lowest_skip p k n (u + 1) (λ v lo hi. none v (omega arith) (omega arith)) ∙ ap (lowest p n) (let e : u + 1 + k ≡ u + suc k = omega arith in e)
-
--- a word that is 0 has no bits
-pub zero_word : (ws : List ℕ) (i v : ℕ) → get_or ws i 0 ≡ 0 → v / 64 ≡ i → bit ws v ≡ false
-zero_word ws i v z e =
-    ap (λ j. eqb (get_or ws j 0 / 2 ^ (v % 64) % 2) 1) e ∙ ap (λ w. eqb (w / 2 ^ (v % 64) % 2) 1) z ∙ ap (λ w. eqb (w % 2) 1) (zero-div (2 ^ (v % 64)))
-
--- one turn of a search, with what is left as a difference
-pub highest_back : (p : ℕ → Bool) (u k : ℕ) → k ≤ u → ((v : ℕ) → u - k ≤ v → v < u → p v ≡ false) → highest p (u - k) ≡ highest p u
-highest_back p u k h none =
-    sym (highest_skip p k (u - k) (λ v lo hi. none v lo (omega arith))) ∙ (let e : u - k + k ≡ u = omega arith in ap (highest p) e)
-
-pub lowest_on : (p : ℕ → Bool) (end u k : ℕ) → k ≤ end - u → ((v : ℕ) → u ≤ v → v < u + k → p v ≡ false) → lowest p (end - (u + k)) (u + k) ≡ lowest p (end - u) u
-lowest_on p end u k h none =
-    sym (lowest_skip p k (end - (u + k)) u none) ∙ (let e : k + (end - (u + k)) ≡ end - u = omega arith in ap (λ n. lowest p n u) e)
-
-pub one_place : (p : ℕ → Bool) (u : ℕ) → p u ≡ false → (v : ℕ) → u ≤ v → v < u + 1 → p v ≡ false
-one_place p u e v lo hi = let q : u ≡ v = omega arith in subst (λ i. p i ≡ false) q e
-
 -- a cleared map
 pub zeros_are : (n : ℕ) → zeros n ≡ replicate n 0
 unfolding zeros
@@ -220,4 +136,8 @@ zeros_are zero = refl
 zeros_are (suc n) = ap (λ ws. 0 ∷ ws) (zeros_are n)
 
 pub all_clear : AllClear
-all_clear n u = zero_word (zeros n) (u / 64) u (get_or_zeros n (u / 64)) refl
+all_clear n u = ap (λ ws. bit ws u) (zeros_are n) ∙ go (cases_lt (u / 64) n)
+  where
+    go : (u / 64 < n) ⊎ (n ≤ u / 64) → bit (replicate n 0) u ≡ false
+    go (inl h) = ap (λ w. eqb (bit_at w (u % 64)) 1) (get_or-replicate n (u / 64) 0 0 h) ∙ ap (λ b. eqb b 1) (bit_at-zero (u % 64))
+    go (inr h) = bit_past (replicate n 0) u (rw length-replicate h)

@@ -4,15 +4,12 @@ use Rattle.std.proofs.lemmas.List.{take_more, take_all}
 use Rattle.pages.specs.Lists.{flat}
 use Rattle.pages.specs.Bytes.{in_bytes}
 use Rattle.store.specs.declared.words.Words.{Words}
-use Rattle.store.specs.Sha256.{digest}
+use Rattle.store.specs.Sha256.{words_of, digest}
 use Rattle.store.specs.Rows.{over}
 use Rattle.store.proofs.Written.{length_over, take_over}
 
 abbrev four : ℕ → List ℕ
 four w = in_bytes 4 w []
-
-abbrev pub words_of : Words → List ℕ
-words_of s = s.a ∷ s.b ∷ s.c ∷ s.d ∷ s.e ∷ s.f ∷ s.g ∷ s.h ∷ []
 
 pub four_is : (w : ℕ) → (w / 16777216 % 256) ∷ (w / 65536 % 256) ∷ (w / 256 % 256) ∷ (w % 256) ∷ [] ≡ in_bytes 4 w []
 unfolding in_bytes
@@ -39,8 +36,8 @@ digest_more out new ws bs i n h l before b w =
           (sym (ap (flat four) (take_more ws i 0 (omega arith)) ∙ flat_push four (take i ws) (get_or ws i 0))),
     )
 
-pub digest_all : (out : List ℕ) (s : Words) (i : ℕ) → length out ≡ 32 → i ≡ 8
-    → take (4 * i) out ≡ flat (λ w. in_bytes 4 w []) (take i (words_of s)) → out ≡ digest s
+pub digest_all : (out ws : List ℕ) (s : Words) (i : ℕ) → length out ≡ 32 → i ≡ 8
+    → take (4 * i) out ≡ flat (λ w. in_bytes 4 w []) (take i ws) → ws ≡ words_of s → out ≡ digest s
 unfolding digest
-digest_all out s i n e h =
-    sym (take_all (4 * i) out (omega arith)) ∙ h ∙ ap (λ k. flat four (take k (words_of s))) e
+digest_all out ws s i n e h w =
+    sym (take_all (4 * i) out (omega arith)) ∙ h ∙ ap (λ k. flat four (take k ws)) e ∙ ap (λ v. flat four (take 8 v)) w

@@ -6,3 +6,4 @@ pub mod Adding
 pub mod Padding
 pub mod Sums
 pub mod BitLaws
+mod SearchLaws

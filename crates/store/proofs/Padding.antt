@@ -1,8 +1,9 @@
 -- The padding: its length in bytes as the code writes it, the last blocks as the code fills them, and the sum of all that came.
-use Rattle.std.proofs.Common.{◌≡◌, ℕ, zero, suc, ◌+◌, ◌-◌, ◌*◌, ◌/◌, ◌%◌, ◌^◌, ◌≤◌, List, [], ◌∷◌, ◌++◌, length, take, drop, set, replicate, sym, refl, ap, ◌∙◌, append_assoc, zero-add, arith, length-append, length-take}
+use Rattle.std.proofs.Common.{◌≡◌, ℕ, suc, ◌+◌, ◌-◌, ◌*◌, ◌/◌, ◌%◌, ◌^◌, ◌≤◌, List, [], ◌∷◌, ◌++◌, length, take, drop, set, replicate, sym, refl, ap, ◌∙◌, append_assoc, arith, length-append, length-take}
 use lib.ListN.{length-replicate}
 use Rattle.std.proofs.lemmas.List.{drop-replicate, set_at, replicate-append-replicate, take_at}
 use Rattle.pages.specs.Bytes.{in_bytes, eight}
+use Rattle.pages.proofs.BytesLaws.{length_in_bytes}
 use Rattle.store.specs.Sha256.{initial, padding, digest, sha256}
 use Rattle.store.specs.Rows.{over}
 use Rattle.store.specs.Running.{fresh, added, finished}
@@ -12,11 +13,6 @@ use Rattle.store.proofs.Adding.{hashed_cut}
 abbrev bytes_of : ℕ → List ℕ
 bytes_of n =
     (n / 72057594037927936 % 256) ∷ (n / 281474976710656 % 256) ∷ (n / 1099511627776 % 256) ∷ (n / 4294967296 % 256) ∷ (n / 16777216 % 256) ∷ (n / 65536 % 256) ∷ (n / 256 % 256) ∷ (n % 256) ∷ []
-
-pub length_in_bytes : (k n : ℕ) (bs : List ℕ) → length (in_bytes k n bs) ≡ k + length bs
-unfolding in_bytes
-length_in_bytes zero n bs = sym (zero-add (length bs))
-length_in_bytes (suc k) n bs = length_in_bytes k (n / 256) (n % 256 ∷ bs) ∙ omega arith
 
 eight_is : (n m : ℕ) → m ≡ n % 2 ^ 64 → bytes_of m ≡ eight n
 unfolding in_bytes

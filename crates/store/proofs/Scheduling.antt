@@ -1,6 +1,8 @@
 -- One more word of the message schedule, and one more round, as the code's loops have them.
-use Rattle.std.proofs.Common.{◌≡◌, ℕ, zero, suc, ◌+◌, ◌-◌, ◌<◌, ◌≤◌, ◌≢◌, List, [], ◌∷◌, ◌++◌, length, get_or, take, set, sym, refl, ap, ◌∙◌, subst, add-one, arith, below_more, le-ltb, lt-ltb}
+use Rattle.std.proofs.Common.{◌≡◌, ℕ, zero, suc, ◌+◌, ◌-◌, ◌<◌, ◌≤◌, ◌≢◌, List, [], ◌∷◌, ◌++◌, length, get_or, take, drop, set, sym, refl, ap, ◌∙◌, subst, add-one, arith, below_more, le-ltb, lt-ltb}
 use Rattle.std.proofs.lemmas.List.{take_more_set, get_or-take, take_all, length_push, length-set, get_or_push, get_or_append_left, get_or-set_other}
+use Rattle.std.proofs.Math.Seq.{drop-cons}
+use Rattle.std.specs.List.{fold, zip}
 use Rattle.store.specs.declared.words.Words.{Words}
 use Rattle.store.specs.Sha256.{K, word, extension, next_word, schedule, round, rounds, plus, compressed}
 use Rattle.store.specs.Mixing.{Mixed}
@@ -47,6 +49,20 @@ pub rounds_more : (W : List ℕ) (s v r : Words) (t k : ℕ) → v ≡ rounds t 
 unfolding rounds
 rounds_more W s v r t k e f g = g ∙ rw (e, f, add-one)
 
+-- the rounds that are left, over what is left of the constants and of the schedule
+abbrev pub turned : Words → ℕ × ℕ → Words
+turned v p = round p.0 p.1 v
+
+pub rounds_rest : (W : List ℕ) (s : Words) (n t : ℕ) → t + n ≡ 64 → length W ≡ 64 → fold turned (rounds t W s) (zip (drop t K) (drop t W)) ≡ rounds 64 W s
+unfolding rounds K
+rounds_rest W s zero t e l =
+    let f : t ≡ 64 = omega arith in
+    rw f
+rounds_rest W s (suc n) t e l =
+    let k : drop t K ≡ get_or K t 0 ∷ drop (suc t) K = drop-cons K t 0 (omega arith) in
+    let w : drop t W ≡ get_or W t 0 ∷ drop (suc t) W = drop-cons W t 0 (omega arith) in
+    rw (k, w) (rounds_rest W s n (suc t) (omega arith) l)
+
 pub mixed_none : (M : List ℕ) (s : Words) (w : List ℕ) → length w ≡ 64 → take 16 w ≡ schedule 16 M → Mixed M s 0 s w
 unfolding rounds
 mixed_none M s w l e = record { size = l; ahead = e; done = refl }
@@ -78,6 +94,6 @@ module _ (M : List ℕ) (s v : Words) (w : List ℕ) (m : Mixed M s 48 v w) wher
   pub last_none : v ≡ rounds 48 w s
   last_none = m.done ∙ ap (λ W. rounds 48 W s) (sym whole)
 
-  pub last_all : (u : Words) (t : ℕ) → t ≡ 64 → u ≡ rounds t w s → plus s u ≡ compressed s M
+  pub last_all : (u : Words) → u ≡ fold turned (rounds 48 w s) (zip (drop 48 K) (drop 48 w)) → plus s u ≡ compressed s M
   unfolding compressed
-  last_all u t e f = ap (plus s) (f ∙ ap (λ k. rounds k w s) e ∙ ap (λ W. rounds 64 W s) whole)
+  last_all u f = ap (plus s) (f ∙ rounds_rest w s 16 48 refl m.size ∙ ap (λ W. rounds 64 W s) whole)

@@ -4,12 +4,12 @@ use lib.ListN.{length-replicate}
 use Rattle.pages.specs.Lists.{every, flat}
 use Rattle.pages.specs.Bytes.{in_bytes}
 use Rattle.store.specs.declared.words.Words.{Words}
-use Rattle.store.specs.Sha256.{K, initial, padding, digest, sha256}
+use Rattle.store.specs.Sha256.{K, initial, padding, words_of, digest, sha256}
 use Rattle.store.specs.Running.{Progress, fresh, added, finished}
 use Rattle.store.specs.Laws.{GivesBytes, CutsUnseen, all_added, PadsLeast, PadsWhole, ConstantsAreRoots, numbers, primes, root_bits, roots}
 use Rattle.store.proofs.Adding.{added_added, added_none}
-use Rattle.store.proofs.Digests.{words_of}
-use Rattle.store.proofs.Padding.{finished_added, length_in_bytes}
+use Rattle.pages.proofs.BytesLaws.{length_in_bytes}
+use Rattle.store.proofs.Padding.{finished_added}
 
 abbrev a_byte : ℕ → Bool
 a_byte b = ltb b 256

@@ -23,6 +23,19 @@ unfoldable pub lowest : (ℕ → Bool) → ℕ → ℕ → Option ℕ
 lowest p zero from = None
 lowest p (suc n) from = pick (p from) (Some from) (lowest p n (from + 1))
 
+-- the highest number is the end of all maps, and names no unit
+abbrev pub named : ℕ → Option ℕ
+named u = pick (nat_lt u 18446744073709551615) (Some u) None
+
+-- the nearest word that has bits, from the front or from the back of a row
+abbrev pub FirstFilled : List ℕ → Option ℕ → Type 0
+FirstFilled ws None = (k : ℕ) → k < length ws → slice_index ws k ≡ 0
+FirstFilled ws (Some i) = (i < length ws) × (0 < slice_index ws i) × ((k : ℕ) → k < i → slice_index ws k ≡ 0)
+
+abbrev pub LastFilled : List ℕ → Option ℕ → Type 0
+LastFilled ws None = (k : ℕ) → k < length ws → slice_index ws k ≡ 0
+LastFilled ws (Some i) = (i < length ws) × (0 < slice_index ws i) × ((k : ℕ) → i < k → k < length ws → slice_index ws k ≡ 0)
+
 -- What the functions on a bitmap do, by its bits alone.
 abbrev pub BitsSet : Type 0
 BitsSet =

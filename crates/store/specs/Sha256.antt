@@ -115,10 +115,12 @@ unfoldable pub hashed : ℕ → Words → List ℕ → Words
 hashed zero H m = H
 hashed (suc i) H m = compressed (hashed i H m) (block i m)
 
--- a hash value as 32 bytes
+-- a hash value as eight words, and as 32 bytes
+abbrev pub words_of : Words → List ℕ
+words_of s = s.a ∷ s.b ∷ s.c ∷ s.d ∷ s.e ∷ s.f ∷ s.g ∷ s.h ∷ []
+
 unfoldable pub digest : Words → List ℕ
-digest s =
-    flat (λ w. in_bytes 4 w []) (s.a ∷ s.b ∷ s.c ∷ s.d ∷ s.e ∷ s.f ∷ s.g ∷ s.h ∷ [])
+digest s = flat (λ w. in_bytes 4 w []) (words_of s)
 
 unfoldable pub sha256 : List ℕ → List ℕ
 sha256 m = digest (hashed (length (padded m) / 64) initial (padded m))

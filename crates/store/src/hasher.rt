@@ -8,6 +8,7 @@ use crate::words::{Words, compress, compress_all};
 
 // A sum that is still open: the hash value so far, the bytes of a block that is not yet whole, and the number of bytes,
 // which wraps at 2 to the 64, as the length in the padding does at 2 to the 61.
+// As it stands: a house keeps no heap, so a block that fills up is an array; its length is that of all bytes, modulo 64.
 #[derive(Clone, Copy)]
 pub struct Hasher {
     state: Words,
@@ -27,10 +28,10 @@ fn write_at(row: &mut [u8], at: usize, bytes: &[u8])
 fn digest(s: Words) -> [u8; 32]
     ensures { result ≡ digest s }
 {
-    let words = [s.a, s.b, s.c, s.d, s.e, s.f, s.g, s.h];
-    let mut out = [0u8; 32];
-    for i in 0..8 {
-        write_at(&mut out, 4 * i, &words[i].to_be_bytes());
+    let words = s.words();
+    let mut out = [0; 32];
+    for (i, word) in words.iter().enumerate() {
+        write_at(&mut out, 4 * i, &word.to_be_bytes());
     }
     out
 }
@@ -77,10 +78,10 @@ impl Hasher {
         self.count = self.count.wrapping_add(len as u64);
     }
 
-    // The sum of all that was added, into the 32 bytes.
-    pub fn finish(self, out: &mut [u8; 32])
-        ensures after { out.new ≡ finished (progress self) }
-        ensures fed { (m : List ℕ) → Fed self m → out.new ≡ sha256 m }
+    // The sum of all that was added.
+    pub fn finish(self) -> [u8; 32]
+        ensures after { result ≡ finished (progress self) }
+        ensures fed { (m : List ℕ) → Fed self m → result ≡ sha256 m }
     {
         let have = (self.count % 64) as usize;
         // one block, or two where the bit 1 and the length do not fit into the first
@@ -93,15 +94,15 @@ impl Hasher {
             end - 8,
             &self.count.wrapping_mul(8).to_be_bytes(),
         );
-        *out = digest(compress_all(self.state, &last[0..end]));
+        digest(compress_all(self.state, &last[0..end]))
     }
 }
 
-// The sum of the bytes, into the 32 bytes.
-pub fn sum(bytes: &[u8], out: &mut [u8; 32])
-    ensures { out.new ≡ sha256 bytes.now }
+// The sum of the bytes.
+pub fn sum(bytes: &[u8]) -> [u8; 32]
+    ensures { result ≡ sha256 bytes.now }
 {
     let mut hasher = Hasher::new();
     hasher.add(bytes);
-    hasher.finish(out);
+    hasher.finish()
 }

@@ -1,7 +1,8 @@
 // The words of the sum: SHA-256's functions, schedule and rounds, as the standard has them.
-ghost use Rattle.std.specs.Prelude.{◌≡◌, ◌+◌, ◌/◌, ◌<◌, ◌≤◌, length, take, slice_index};
+ghost use Rattle.std.specs.Prelude.{◌≡◌, ◌+◌, ◌/◌, ◌<◌, ◌≤◌, length, take, drop, fold, slice_index};
+ghost use Rattle.std.specs.List.{zip};
 ghost use Rattle.store.specs.Mixing.{GoesOn};
-ghost use Rattle.store.specs.Sha256.{Ch, Maj, Σ₀, Σ₁, σ₀, σ₁, K, round, word, extension, schedule, compressed, hashed};
+ghost use Rattle.store.specs.Sha256.{Ch, Maj, Σ₀, Σ₁, σ₀, σ₁, K, plus, round, word, words_of, extension, schedule, compressed, hashed};
 
 // The eight words of a hash value, and the eight working variables.
 #[derive(Clone, Copy)]
@@ -14,6 +15,32 @@ pub struct Words {
     pub f: u32,
     pub g: u32,
     pub h: u32,
+}
+
+impl Words {
+    pub(crate) fn words(self) -> [u32; 8]
+        ensures { result ≡ words_of self }
+    {
+        [
+            self.a, self.b, self.c, self.d, self.e, self.f, self.g, self.h,
+        ]
+    }
+
+    // The sums of the words, each modulo 2 to the 32.
+    fn plus(self, other: Words) -> Words
+        ensures { result ≡ plus self other }
+    {
+        Words {
+            a: self.a.wrapping_add(other.a),
+            b: self.b.wrapping_add(other.b),
+            c: self.c.wrapping_add(other.c),
+            d: self.d.wrapping_add(other.d),
+            e: self.e.wrapping_add(other.e),
+            f: self.f.wrapping_add(other.f),
+            g: self.g.wrapping_add(other.g),
+            h: self.h.wrapping_add(other.h),
+        }
+    }
 }
 
 const CONSTANTS: [u32; 64] = [
@@ -150,8 +177,8 @@ fn round(s: Words, k: u32, w: u32) -> Words
 }
 
 // Word t of a block, the highest byte first.
-fn word(block: &[u8], t: usize) -> u32
-    requires { (length block.now ≡ 64) × (t < 16) }
+fn word(block: &[u8; 64], t: usize) -> u32
+    requires { t < 16 }
     ensures { result ≡ word block.now t }
 {
     u32::from_be_bytes([
@@ -163,13 +190,13 @@ fn word(block: &[u8], t: usize) -> u32
 }
 
 // The first sixteen words of a block's message schedule; the others are not made yet.
-fn load(block: &[u8]) -> [u32; 64]
-    requires { length block.now ≡ 64 }
+fn load(block: &[u8; 64]) -> [u32; 64]
     ensures { take 16 result ≡ schedule 16 block.now }
 {
     let mut w = [0u32; 64];
-    for i in 0..16 {
-        w[i] = word(block, i);
+    // As it stands: `word` is the standard's word t of a block, and over chunks of four bytes the line would be longer.
+    for t in 0..16 {
+        w[t] = word(block, t);
     }
     w
 }
@@ -191,6 +218,7 @@ fn eight_rounds(s: Words, w: &mut [u32; 64], t: usize) -> Words
     ensures { GoesOn 8 t s w.old result w.new }
 {
     let mut v = s;
+    // As it stands: the schedule is read at one place and written at another, which an iterator over it forbids.
     for i in 0..8 {
         w[t + i + 16] = extension(w, t + i + 16);
         v = round(v, constant(t + i), w[t + i]);
@@ -198,39 +226,33 @@ fn eight_rounds(s: Words, w: &mut [u32; 64], t: usize) -> Words
     v
 }
 
+// The last sixteen rounds, with the whole schedule.
+fn last_rounds(v: Words, w: &[u32; 64]) -> Words
+    ensures { result ≡ fold (λ v p. round p.0 p.1 v) v (zip (drop 48 K) (drop 48 w.now)) }
+{
+    CONSTANTS[48..]
+        .iter()
+        .zip(&w[48..])
+        .fold(v, |v, (k, w)| round(v, *k, *w))
+}
+
 // The next hash value, from the one before and a block.
-pub(crate) fn compress(s: Words, block: &[u8]) -> Words
-    requires { length block.now ≡ 64 }
+pub(crate) fn compress(s: Words, block: &[u8; 64]) -> Words
     ensures { result ≡ compressed s block.now }
 {
     let mut w = load(block);
     let mut v = s;
+    // As it stands: what goes on is a number of rounds, not a row.
     for b in 0..6 {
         v = eight_rounds(v, &mut w, 8 * b);
     }
-    for t in 48..64 {
-        v = round(v, constant(t), w[t]);
-    }
-    Words {
-        a: s.a.wrapping_add(v.a),
-        b: s.b.wrapping_add(v.b),
-        c: s.c.wrapping_add(v.c),
-        d: s.d.wrapping_add(v.d),
-        e: s.e.wrapping_add(v.e),
-        f: s.f.wrapping_add(v.f),
-        g: s.g.wrapping_add(v.g),
-        h: s.h.wrapping_add(v.h),
-    }
+    s.plus(last_rounds(v, &w))
 }
 
 // The hash value after all the whole blocks of the bytes.
 pub(crate) fn compress_all(s: Words, bytes: &[u8]) -> Words
     ensures { result ≡ hashed (length bytes.now / 64) s bytes.now }
 {
-    let mut v = s;
-    let n = bytes.len() / 64;
-    for i in 0..n {
-        v = compress(v, &bytes[64 * i..64 * i + 64]);
-    }
-    v
+    let (blocks, _) = bytes.as_chunks();
+    blocks.iter().fold(s, |v, block| compress(v, block))
 }

@@ -6,7 +6,7 @@ use std::io::Read;
 use std::{env, io};
 use store::hasher::Hasher;
 
-fn sum_of(file: &mut File, out: &mut [u8; 32]) -> io::Result<()> {
+fn sum_of(file: &mut File) -> io::Result<[u8; 32]> {
     let mut piece = [0u8; 65536];
     let mut hasher = Hasher::new();
     for _ in 0..u64::MAX {
@@ -16,16 +16,13 @@ fn sum_of(file: &mut File, out: &mut [u8; 32]) -> io::Result<()> {
         }
         hasher.add(&piece[0..n]);
     }
-    hasher.finish(out);
-    Ok(())
+    Ok(hasher.finish())
 }
 
 fn main(rt: HostRuntime) -> anyhow::Result<()> {
     for name in env::args(&rt)?.skip(1) {
         let mut file = File::open(&rt, name.as_str())?;
-        let mut out = [0u8; 32];
-        sum_of(&mut file, &mut out)?;
-        for b in out {
+        for b in sum_of(&mut file)? {
             print!(rt; "{b:02x}")?;
         }
         println!(rt; "  {name}")?;

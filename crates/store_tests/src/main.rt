@@ -2,10 +2,10 @@
 // the standard's published examples, every length up to two blocks and more, and a long message in uneven pieces.
 #![tactic(auto)]
 
-use std::io;
+use std::{array, io};
 use store::hasher::{Hasher, sum};
 
-fn show(rt: &impl Print, name: &str, out: &[u8; 32]) -> io::Result<()> {
+fn show(rt: &impl Print, name: &str, out: [u8; 32]) -> io::Result<()> {
     print!(rt; "{name} ")?;
     for b in out {
         print!(rt; "{b:02x}")?;
@@ -14,51 +14,42 @@ fn show(rt: &impl Print, name: &str, out: &[u8; 32]) -> io::Result<()> {
 }
 
 fn published(rt: &impl Print) -> io::Result<()> {
-    let mut out = [0u8; 32];
-    sum(b"", &mut out);
-    show(rt, "empty", &out)?;
-    sum(b"abc", &mut out);
-    show(rt, "abc", &out)?;
-    sum(
-        b"abcdbcdecdefdefgefghfghighijhijkijkljklmklmnlmnomnopnopq",
-        &mut out,
-    );
-    show(rt, "448 bits", &out)?;
-    sum(
-        b"abcdefghbcdefghicdefghijdefghijkefghijklfghijklmghijklmnhijklmnoijklmnopjklmnopqklmnopqrlmnopqrsmnopqrstnopqrstu",
-        &mut out,
-    );
-    show(rt, "896 bits", &out)
+    show(rt, "empty", sum(b""))?;
+    show(rt, "abc", sum(b"abc"))?;
+    show(
+        rt,
+        "448 bits",
+        sum(b"abcdbcdecdefdefgefghfghighijhijkijkljklmklmnlmnomnopnopq"),
+    )?;
+    show(
+        rt,
+        "896 bits",
+        sum(
+            b"abcdefghbcdefghicdefghijdefghijkefghijklfghijklmghijklmnhijklmnoijklmnopjklmnopqklmnopqrlmnopqrsmnopqrstnopqrstu",
+        ),
+    )
 }
 
 // A million times 'a', in pieces of ten thousand.
 fn million(rt: &impl Print) -> io::Result<()> {
-    let piece = [97u8; 10000];
+    let piece = [b'a'; 10000];
     let mut hasher = Hasher::new();
     for _ in 0..100 {
         hasher.add(&piece);
     }
-    let mut out = [0u8; 32];
-    hasher.finish(&mut out);
-    show(rt, "million", &out)
+    show(rt, "million", hasher.finish())
 }
 
 // The byte at each place of the message that is cut at every length.
 fn pattern() -> [u8; 256] {
-    let mut row = [0u8; 256];
-    for i in 0..256 {
-        row[i] = ((i * 7 + i / 3) % 256) as u8;
-    }
-    row
+    array::from_fn(|i| ((i * 7 + i / 3) % 256) as u8)
 }
 
 fn lengths(rt: &impl Print) -> io::Result<()> {
     let row = pattern();
     for n in 0..131 {
-        let mut out = [0u8; 32];
-        sum(&row[0..n], &mut out);
         print!(rt; "{n} ")?;
-        show(rt, "bytes", &out)?;
+        show(rt, "bytes", sum(&row[..n]))?;
     }
     Ok(())
 }
@@ -67,12 +58,10 @@ fn lengths(rt: &impl Print) -> io::Result<()> {
 fn pieces(rt: &impl Print) -> io::Result<()> {
     let row = pattern();
     let mut hasher = Hasher::new();
-    for n in 0..257 {
-        hasher.add(&row[0..n]);
+    for n in 0..=256 {
+        hasher.add(&row[..n]);
     }
-    let mut out = [0u8; 32];
-    hasher.finish(&mut out);
-    show(rt, "pieces", &out)
+    show(rt, "pieces", hasher.finish())
 }
 
 fn main(rt: HostRuntime) -> anyhow::Result<()> {

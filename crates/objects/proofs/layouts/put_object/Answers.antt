@@ -13,6 +13,6 @@ returns c =
     let e : laid ≡ front = c.copy_from_slice.ensures.after in
     let l : length laid ≡ length front - 0 = ap length e ∙ (omega arith) in
     let at : length front ≡ 0 + length front = omega arith in
-    put_over 0 (length front - 0) laid c.copy_down.new.memory l
-    ∙ ap₂ (over 0) e (c.copy_down.ensures ∙ ap (λ k. over k ws m) at)
+    put_over 0 (length front - 0) laid c.copy_words.new.memory l
+    ∙ ap₂ (over 0) e (c.copy_words.ensures ∙ ap (λ k. over k ws m) at)
     ∙ over_before_part 0 front ws m (omega arith)

@@ -22,9 +22,9 @@ returns c =
           ap₂ (λ w n. (w + n) / 64) c.min-waiting.ensures c.min-words.ensures
           ∙ sym (pages_packed_is c.args.waiting c.args.words m c.if-memory-lt-END.false);
       memory =
-          c.keep_back.ensures
+          c.copy_words-3.ensures
           ∙ ap (kept_back ((w + n) / 64))
-          (c.put_rest.ensures ∙ ap (λ x. over 0 (take w (drop rest_at x)) x) c.move_up.ensures
+          (c.copy_words-2.ensures ∙ ap (λ x. over 0 (take w (drop rest_at x)) x) c.copy_words.ensures
           ∙ put_in_front w n m c.if-memory-lt-END.false (omega arith) (omega arith))
           ∙ packed_is c.args.waiting c.args.words w n m c.if-memory-lt-END.false c.min-waiting.ensures c.min-words.ensures;
     }

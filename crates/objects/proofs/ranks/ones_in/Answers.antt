@@ -1,17 +1,14 @@
-use Rattle.std.proofs.Common.{ℕ, List, sum_by, ap, ◌∙◌, arith}
-use lib.Count.{ones}
-use Rattle.std.proofs.lemmas.List.{take_all}
-use Rattle.std.proofs.lemmas.List.Sums.{sum_by_more}
+use Rattle.std.proofs.Common.{◌≡◌, ℕ, ◌≤◌, List, sum_by, get_or, arith, rules}
+use lib.Count.{ones, ones-le}
+use Rattle.std.proofs.Math.Facts.{Fits-lt-pow}
+use Rattle.std.proofs.lemmas.List.Sums.{sum_by-le}
+use Rattle.std.proofs.lemmas.List.Elements.{All-from_get_or}
+use Rattle.std.specs.List.{All}
 use Rattle.objects.proofs.ranks.ones_in.Goals as goal
 
-pub loop-word-preserved : goal.loop-word-preserved
-loop-word-preserved c =
-    (omega (arith, sum_by_more ones c.args.words.now c.loop-word.word-index 0 (omega arith), c.ones_of-sum.ensures.value), omega arith)
-
-pub returns : goal.returns
-returns c =
+pub returns-clause-bound : goal.returns-clause-bound
+returns-clause-bound c =
     let ws : List ℕ = c.args.words.now in
-    record {
-      value = c.loop-word.invariant.0 ∙ ap (sum_by ones) (take_all c.loop-word.word-index ws (omega arith));
-      bound = omega arith;
-    }
+    let each : All (λ x. ones x ≤ 64) ws = All-from_get_or (λ x. ones x ≤ 64) ws 0 (λ i h. ones-le 64 (get_or ws i 0) (Fits-lt-pow (c.type_inv.words i))) in
+    let value : c.sum.result ≡ sum_by ones ws = search rules in
+    omega (arith, sum_by-le ones 64 ws each, value)

@@ -2,15 +2,14 @@ use Rattle.std.proofs.Common.{◌≡◌, ℕ, true, eqb, leb, List, length, sym,
 use Rattle.std.proofs.lemmas.Bool.{eq-eqb, le-leb, and_from}
 use Rattle.pages.specs.Run.{Step, done}
 use Rattle.pages.specs.Told.{ActTold, event_meant}
-use Rattle.pages.specs.Machine.{program}
-use Rattle.pages.specs.Engine.{StepTold, engine, engine_fits, housed, stepped_in}
+use Rattle.pages.specs.Engine.{StepTold, engine, engine_fits, stepped_in}
 use Rattle.pages.proofs.ListLaws.{pick_true}
 use Rattle.pages.proofs.cells.step.Goals as goal
 
 pub returns : goal.returns
 unfolding engine
 returns g c =
-    let f = housed (program g.C.Client.wakes g.C.Client.hears g.C.Client.resumes) g.C.Client.loads g.C.Client.saves in
+    let f = g.C.Client.housed in
     let m : List ℕ = c.args.memory.now in
     let out : List ℕ = c.args.out.now in
     let ev = event_meant c.args.event in

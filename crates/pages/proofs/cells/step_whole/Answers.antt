@@ -4,8 +4,8 @@ use Rattle.std.proofs.lemmas.List.{take_at, drop_at, drop-drop, drop_all, take_a
 use Rattle.std.proofs.lemmas.Bool.{le-leb, and_from}
 use Rattle.pages.specs.Run.{Event}
 use Rattle.pages.specs.Told.{ActTold, event_meant}
-use Rattle.pages.specs.Machine.{Moves, ServeSays, serve_fits, served, program}
-use Rattle.pages.specs.Engine.{Housed, housed, machine_cells, machine_in, stepped_in}
+use Rattle.pages.specs.Machine.{Moves, ServeSays, serve_fits, served}
+use Rattle.pages.specs.Engine.{Housed, machine_cells, machine_in, stepped_in}
 use Rattle.pages.specs.declared.machine.Machine.{Machine}
 use Rattle.pages.specs.declared.told.Told.{Told}
 use Rattle.pages.proofs.cells.step_whole.Goals as goal
@@ -59,19 +59,19 @@ back_length m l = length-take-le 262016 (drop 128 m) (omega (arith, length-drop 
 
 pub returns : goal.returns
 returns g c =
-    let f = housed (program g.C.Client.wakes g.C.Client.hears g.C.Client.resumes) g.C.Client.loads g.C.Client.saves in
+    let f = g.C.Client.housed in
     let m : List ℕ = c.args.memory.now in
     let out : List ℕ = c.args.out.now in
     let last = c.serve-told.new in
     let lm : length c.copy_from_slice-2.new.self ≡ 8 = c.copy_from_slice-2.ensures.len ∙ front_length m last.memory c.requires.0 in
     let x =
-    whole_step f m (event_meant c.args.event) c.load-client.result c.copy_from_slice-2.new.self c.copy_from_slice-3.new.self out
-    c.serve-told.result last.machine last.client last.memory last.out c.requires.0 c.requires.1
-    (c.load-client.ensures ∙ ap g.C.Client.loads c.copy_from_slice.ensures.after)
+    whole_step f m (event_meant c.args.event) c.load.result c.copy_from_slice-2.new.self c.copy_from_slice-3.new.self out
+    c.serve-told.result last.self.machine last.self.client last.memory last.out c.requires.0 c.requires.1
+    (c.load.ensures ∙ ap g.C.Client.housed.load c.copy_from_slice.ensures.after)
     (subst
-    (λ r. ServeSays (serve_fits (take 262016 (drop 128 m)) out) f.program r c.load-client.result (take 262016 (drop 128 m)) (event_meant c.args.event) out
-    c.serve-told.result last.machine last.client last.memory last.out)
-    c.load_machine-machine.ensures c.serve-told.ensures)
+    (λ r. ServeSays (serve_fits (take 262016 (drop 128 m)) out) f.program r c.load.result (take 262016 (drop 128 m)) (event_meant c.args.event) out
+    c.serve-told.result last.self.machine last.self.client last.memory last.out)
+    c.load_machine.ensures c.serve-told.ensures)
     (c.copy_from_slice-2.ensures.after ∙ c.machine_cells.ensures) (c.copy_from_slice-3.ensures.after ∙ c.save.ensures) lm
     (c.copy_from_slice-3.ensures.len ∙ middle_length m c.copy_from_slice-2.new.self last.memory c.requires.0 lm)
     (c.serve-told.auto.memory ∙ back_length m c.requires.0) in

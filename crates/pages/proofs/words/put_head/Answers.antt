@@ -1,10 +1,10 @@
-use Rattle.std.proofs.Common.{◌≡◌, ℕ, ◌*◌, List, ◌++◌, length, drop, sym, ap, ◌∙◌, ap₂, arith}
+use Rattle.std.proofs.Common.{◌≡◌, ℕ, ◌*◌, List, ◌++◌, length, take, drop, replicate, sym, ap, ◌∙◌, ap₂, arith, length-drop}
 use borrow.Rule.Slice.PartMut.{put_mid}
-use Rattle.std.proofs.lemmas.List.{take_all}
+use Rattle.std.proofs.lemmas.List.{take_all, length-take-le}
 use Rattle.pages.specs.Lists.{zeros}
 use Rattle.pages.specs.Words.{bytes_of}
 use Rattle.pages.specs.Machine.{head_page}
-use Rattle.pages.proofs.WordLaws.{put_behind, length_bytes_of}
+use Rattle.pages.proofs.WordLaws.{put_behind, length_bytes_of, replicate_zeros}
 use Rattle.pages.proofs.words.put_head.Goals as goal
 
 padded : (ws was mid new : List ℕ) → length ws ≡ 32 → mid ≡ bytes_of ws ++ drop (8 * length ws) was → new ≡ zeros 256 →
@@ -16,7 +16,8 @@ padded ws was mid new l e n =
     ∙ ap (λ xs. (bytes_of xs ++ zeros 256) ++ drop 512 was) (sym (take_all 32 ws (omega arith)))
 
 pub returns : goal.returns
-unfolding zeros
 returns c =
-    padded c.args.words.now c.args.out.now c.put_words.new.out c.copy_from_slice.new.self c.requires.0 c.put_words.ensures
-    c.copy_from_slice.ensures.after
+    let mid = c.put_words.new.out in
+    let l : length (take 256 (drop 256 mid)) ≡ 256 = length-take-le 256 (drop 256 mid) (omega (arith, length-drop 256 mid, c.put_words.auto.out)) in
+    padded c.args.words.now c.args.out.now mid c.fill.new.self c.requires.0 c.put_words.ensures
+    (c.fill.ensures.after (λ y e. e) ∙ ap (λ n. replicate n 0) l ∙ replicate_zeros 256)

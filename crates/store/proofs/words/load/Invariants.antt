@@ -2,5 +2,5 @@ use Rattle.std.proofs.Common.{◌≡◌, length, take}
 use Rattle.store.specs.Sha256.{schedule}
 use Rattle.store.proofs.words.load.Given as goal
 
-abbrev pub invariant-loop-i : goal.invariant-loop-i
-invariant-loop-i l = (length l.w ≡ 64) × (take l.i l.w ≡ schedule l.i l.block)
+abbrev pub invariant-loop-t : goal.invariant-loop-t
+invariant-loop-t l = (length l.w ≡ 64) × (take l.t l.w ≡ schedule l.t l.block)

@@ -1,0 +1,105 @@
+-- Rows of pages, as the code sets and reads them, are those of the device. Assumes nothing.
+use Rattle.std.proofs.Common.{◌≡◌, ℕ, zero, suc, ◌+◌, ◌/◌, ◌%◌, ◌<◌, ◌≤◌, eqb, ◌⊎◌, List, [], ◌∷◌, ◌++◌, length, get_or, drop, set, replicate, sym, refl, ap, ◌∙◌, ap₂, inl, inr, arith}
+use Rattle.std.specs.List.{AllZip}
+use Rattle.std.proofs.lemmas.Slice.Zip.{AllZip-map}
+use Rattle.std.proofs.lemmas.Bool.{eqb-true, eqb-false, cases_lt}
+use Rattle.std.proofs.lemmas.List.{drop_more, drop_all, get_or_past, map-id}
+use Rattle.pages.specs.Lists.{each, zeros}
+use Rattle.pages.specs.Device.{Page, Write, all_written, blank, left, page_at, set_page}
+use Rattle.pages.proofs.ListLaws.{pick_both}
+use Rattle.pages.proofs.DeviceLaws.{page_at_set_other}
+use Rattle.device.specs.Held.{brought, last_of, meant}
+use Rattle.device.specs.Left.{code, digits}
+use Rattle.device.specs.declared.Left.{Left}
+use Rattle.device.specs.declared.Left.TheVariants.{Nothing}
+use Rattle.device.specs.declared.Write.{Write as Waiting}
+
+pub set_is : (ps : List Page) (k : ℕ) (p : Page) → set ps k p ≡ set_page ps k p
+unfolding set_page
+set_is [] k p = refl
+set_is (q ∷ qs) zero p = refl
+set_is (q ∷ qs) (suc k) p = ap (λ xs. q ∷ xs) (set_is qs k p)
+
+pub set_past : (ps : List Page) (k : ℕ) (p : Page) → length ps ≤ k → ps ≡ set_page ps k p
+unfolding set_page
+set_past [] k p h = refl
+set_past (q ∷ qs) zero p h = absurd (omega arith)
+set_past (q ∷ qs) (suc k) p h = ap (λ xs. q ∷ xs) (set_past qs k p (omega arith))
+
+pub page_is : (ps : List Page) (k : ℕ) (d : Page) → k < length ps → get_or ps k d ≡ page_at ps k
+unfolding page_at
+page_is [] k d h = absurd (omega arith)
+page_is (q ∷ qs) zero d h = refl
+page_is (q ∷ qs) (suc k) d h = page_is qs k d (omega arith)
+
+page_at_set : (ps : List Page) (k : ℕ) (p : Page) → k < length ps → page_at (set_page ps k p) k ≡ p
+unfolding page_at set_page
+page_at_set [] k p h = absurd (omega arith)
+page_at_set (q ∷ qs) zero p h = refl
+page_at_set (q ∷ qs) (suc k) p h = page_at_set qs k p (omega arith)
+
+pub length-set_page : (ps : List Page) (k : ℕ) (p : Page) → length (set_page ps k p) ≡ length ps
+unfolding set_page
+length-set_page [] k p = refl
+length-set_page (q ∷ qs) zero p = refl
+length-set_page (q ∷ qs) (suc k) p = ap suc (length-set_page qs k p)
+
+-- a page as the last write to its place has it is the page that is seen
+pub seen_is : (ws : List Write) (ps : List Page) (k : ℕ) → k < length ps → last_of (page_at ps k) ws k ≡ page_at (all_written ps ws) k
+unfolding all_written
+seen_is [] ps k h = refl
+seen_is (w ∷ ws) ps k h =
+    ap (λ p. last_of p ws k)
+    (pick_both (λ p. p ≡ page_at (set_page ps w.at w.page) k) (eqb w.at k) w.page (page_at ps k)
+    (λ e. let same : w.at ≡ k = eqb-true w.at k e in sym (ap (λ j. page_at (set_page ps j w.page) k) same ∙ page_at_set ps k w.page h))
+    (λ e. sym (page_at_set_other ps w.at k w.page (eqb-false w.at k e))))
+    ∙ seen_is ws (set_page ps w.at w.page) k (omega (arith, length-set_page ps w.at w.page))
+
+pub blank_is : (n : ℕ) → replicate n (zeros 512) ≡ blank n
+unfolding blank
+blank_is zero = refl
+blank_is (suc n) = ap (λ ps. zeros 512 ∷ ps) (blank_is n)
+
+left_none : (ps : List Page) (ws : List Write) → left ps ws [] ≡ ps
+unfolding left
+left_none ps [] = refl
+left_none ps (w ∷ ws) = refl
+
+-- one write more, of which so much came in as is said of it
+pub left_more : (q : List Waiting) (cs : List Left) (i : ℕ) (ps : List Page) (d : Waiting) → i < length q →
+    left (brought ps (meant (get_or q i d)) (code (get_or cs i Nothing))) (each meant (drop (i + 1) q)) (each code (drop (i + 1) cs))
+    ≡ left ps (each meant (drop i q)) (each code (drop i cs))
+unfolding left
+left_more q cs i ps d h = go (cases_lt i (length cs))
+  where
+    w : Waiting
+    w = get_or q i d
+
+    rest : List Write
+    rest = each meant (drop (i + 1) q)
+
+    front : each meant (drop i q) ≡ meant w ∷ rest
+    front = ap (each meant) (drop_more q i d h)
+
+    go : (i < length cs) ⊎ (length cs ≤ i) →
+        left (brought ps (meant w) (code (get_or cs i Nothing))) rest (each code (drop (i + 1) cs)) ≡ left ps (each meant (drop i q)) (each code (drop i cs))
+    go (inl l) = sym (ap₂ (left ps) front (ap (each code) (drop_more cs i Nothing l)))
+    go (inr l) =
+        ap₂ (λ (c : Left) ds. left (brought ps (meant w) (code c)) rest (each code ds)) (get_or_past cs i Nothing l) (drop_all (i + 1) cs (omega arith))
+        ∙ left_none ps rest ∙ sym (ap₂ (left ps) front (ap (each code) (drop_all i cs l)))
+
+pub same_zeros : (ys : List ℕ) → AllZip (λ x y. y ≡ x) (zeros 512) ys → ys ≡ zeros 512
+same_zeros ys h = AllZip-map (λ x. x) (zeros 512) ys h ∙ map-id (zeros 512)
+
+-- OUTCOMES
+pub each_push : (xs : List Left) (x : Left) (ys : List ℕ) → each code (xs ++ x ∷ []) ++ ys ≡ each code xs ++ code x ∷ ys
+each_push [] x ys = refl
+each_push (l ∷ ls) x ys = ap (λ ns. code l ∷ ns) (each_push ls x ys)
+
+pub digits_none : (n : ℕ) → digits 0 n ≡ []
+unfolding digits
+digits_none n = refl
+
+pub digits_more : (k n : ℕ) → digits (suc k) n ≡ n % 3 ∷ digits k (n / 3)
+unfolding digits
+digits_more k n = refl

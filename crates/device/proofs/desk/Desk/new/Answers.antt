@@ -1,0 +1,4 @@
+use Rattle.device.proofs.desk.Desk.new.Goals as goal
+
+pub returns : goal.returns
+returns c = (c.in_ok-vec.ensures.items_if_clones_equal (λ y e. e), c.in_ok-vec-2.ensures.items_if_clones_equal (λ y e. e))

@@ -1,0 +1,205 @@
+// A device in memory and a house's memory beside it, for trials. The device is proved to be the one of the promise.
+#![tactic(auto)]
+
+ghost use Rattle.std.specs.Prelude.{◌≡◌, ◌%◌, ◌<◌, ◌≤◌, List, [], ◌++◌, ◌∷◌, length, slice_index_or, IfOk, MatchOption};
+ghost use Rattle.pages.specs.Device.{Device as Held, all_written, blank, flushed, left as left_of, read_page, set_page, stopped};
+ghost use Rattle.pages.specs.Lists.{each};
+ghost use Rattle.device.specs.Held.{brought, last_of, meant};
+ghost use Rattle.device.specs.Left.{code, digits};
+
+pub mod desk;
+
+use std::alloc::{AllocError, Global};
+use std::marker::Model;
+
+pub type Page = [u8; 512];
+
+// What came of a waiting write at a stop.
+#[derive(Clone, Copy, Debug, PartialEq, Eq)]
+pub enum Left {
+    Nothing,
+    All,
+    FirstHalf,
+}
+
+// A number's last digit to the base 3.
+impl From<u64> for Left {
+    ghost from_gives = { λ n left. code left ≡ n % 3 };
+
+    fn from(n: u64) -> Left {
+        match n % 3 {
+            0 => Left::Nothing,
+            1 => Left::All,
+            _ => Left::FirstHalf,
+        }
+    }
+}
+
+// What a stop leaves of so many waiting writes: the digits of a number to the base 3, the last one first.
+pub fn outcome(heap: Global, number: u64, waiting: usize) -> Result<Vec<Left>, AllocError>
+    ensures { IfOk result (λ v. each code v.items ≡ digits waiting number) }
+{
+    let mut left = Vec::new(heap);
+    let mut rest = number;
+    for _ in 0..waiting {
+        left.push(Left::from(rest))?;
+        rest /= 3;
+    }
+    Ok(left)
+}
+
+// A write that waits for a flush.
+#[derive(Clone, Copy)]
+struct Write {
+    at: usize,
+    page: Page,
+}
+
+// Pages, and the writes that wait, the oldest first.
+#[derive(Drop)]
+pub struct Device {
+    pages: Vec<Page>,
+    queue: Vec<Write>,
+}
+
+impl Model for Device {
+    ghost use Rattle.pages.specs.Device.{Device as Held};
+
+    ghost Value = { Held };
+
+    ghost use Rattle.device.specs.Held.{held};
+
+    ghost view = { λ d. held d.pages.items d.queue.items };
+}
+
+// Puts a page into its place, if there is one.
+fn set(pages: &mut [Page], at: usize, page: Page)
+    ensures { pages.new ≡ set_page pages.old at page }
+{
+    if at < pages.len() {
+        pages[at] = page;
+    }
+}
+
+// What a write leaves of which so much came in.
+fn bring(pages: &mut [Page], write: &Write, left: Left)
+    ensures { pages.new ≡ brought pages.old (meant write.now) (code left) }
+{
+    match left {
+        Left::Nothing => {}
+        Left::All => set(pages, write.at, write.page),
+        Left::FirstHalf => {
+            if write.at < pages.len() {
+                pages[write.at][0..256].copy_from_slice(&write.page[0..256]);
+            }
+        }
+    }
+}
+
+fn bring_all(pages: &mut [Page], queue: &[Write])
+    ensures { pages.new ≡ all_written pages.old (each meant queue.now) }
+{
+    for write in queue {
+        set(pages, write.at, write.page);
+    }
+}
+
+// What is said of a write by its place; nothing where the row ends before.
+fn said(left: &[Left], i: usize) -> Left
+    ensures { result ≡ slice_index_or left.now i Left.Nothing }
+{
+    left.get(i).copied().unwrap_or(Left::Nothing)
+}
+
+fn bring_some(pages: &mut [Page], queue: &[Write], left: &[Left])
+    ensures { pages.new ≡ left_of pages.old (each meant queue.now) (each code left.now) }
+{
+    for (i, write) in queue.iter().enumerate() {
+        bring(pages, write, said(left, i));
+    }
+}
+
+// A page that is there, as the last write to it has it.
+fn seen(page: Page, queue: &[Write], at: usize) -> Page
+    ensures { result ≡ last_of page (each meant queue.now) at }
+{
+    let mut page = page;
+    for write in queue {
+        if write.at == at {
+            page = write.page;
+        }
+    }
+    page
+}
+
+impl Device {
+    // So many pages of zeros, with nothing waiting.
+    pub fn blank(heap: Global, pages: usize) -> Result<Device, AllocError>
+        ensures { IfOk result (λ d. d ≡ record { pages = blank pages; queue = [] }) }
+    {
+        Ok(Device {
+            pages: vec![in heap; [0u8; 512]; pages]?,
+            queue: Vec::new(heap),
+        })
+    }
+
+    // The same pages, and the same writes waiting.
+    pub fn copied(&self) -> Result<Device, AllocError>
+        ensures { IfOk result (λ d. d ≡ self.now) }
+    {
+        let heap = *self.pages.allocator();
+        Ok(Device {
+            pages: Vec::from_slice(heap, &self.pages)?,
+            queue: Vec::from_slice(heap, &self.queue)?,
+        })
+    }
+
+    // How many pages there are.
+    pub fn pages(&self) -> usize
+        ensures { result ≡ length self.now.pages }
+    {
+        self.pages.len()
+    }
+
+    // How many writes wait.
+    pub fn waiting(&self) -> usize
+        ensures { result ≡ length self.now.queue }
+    {
+        self.queue.len()
+    }
+
+    // A page as whoever reads sees it, with what waits; none where there is no such page.
+    pub fn read(&self, at: usize) -> Option<Page>
+        ensures { MatchOption result (length self.now.pages ≤ at) (λ page. page ≡ read_page self.now at) }
+    {
+        if at < self.pages.len() {
+            Some(seen(self.pages[at], &self.queue, at))
+        } else {
+            None
+        }
+    }
+
+    // A write that waits from now on.
+    pub fn write(&mut self, at: usize, page: Page) -> Result<(), AllocError>
+        ensures ok { IfOk result (λ _. self.new ≡ record { pages = self.old.pages; queue = self.old.queue ++ record { at = at; page = page } ∷ [] }) }
+    {
+        self.queue.push(Write { at, page })?;
+        Ok(())
+    }
+
+    // All that waits comes in.
+    pub fn flush(&mut self)
+        ensures { self.new ≡ flushed self.old }
+    {
+        bring_all(&mut self.pages, &self.queue);
+        self.queue.clear();
+    }
+
+    // A stop: of each waiting write, in turn, so much came onto its page; what is not said is nothing.
+    pub fn stop(&mut self, left: &[Left])
+        ensures { self.new ≡ stopped self.old (each code left.now) }
+    {
+        bring_some(&mut self.pages, &self.queue, left);
+        self.queue.clear();
+    }
+}
