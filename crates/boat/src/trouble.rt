@@ -41,6 +41,7 @@ impl From<AllocError> for Trouble {
     }
 }
 
+// As it stands: std has two errors of memory, and `?` wants an impl for each.
 impl<T: Drop> From<AllocFailed<T>> for Trouble {
     fn from(_error: AllocFailed<T>) -> Trouble {
         Trouble::Memory

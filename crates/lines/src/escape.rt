@@ -37,6 +37,7 @@ pub fn unescaped(heap: Global, text: &[u8]) -> Result<Option<Vec<u8>>, AllocErro
 {
     let mut bytes = Vec::new(heap);
     let mut rest = text;
+    // As it stands: escapes have two lengths, so no chain of chunks goes over them.
     while !rest.is_empty() {
         let Some((byte, after)) = first_byte(rest) else {
             return Ok(None);

@@ -80,6 +80,7 @@ fn ten(key: &Key, reference: u64) -> Entry
 }
 
 // An entry more at a place among n.
+// As it stands: the words and the number of entries, since std says nothing of what a slice holds after `as_chunks_mut`.
 pub(crate) fn insert(body: &mut [u64], n: usize, at: usize, key: &Key, reference: u64)
     requires { (at ≤ n) × (10 * n + 10 ≤ length body.old) }
     ensures { body.new ≡ laid (take at (cut n body.old) ++ entry key.now reference ∷ drop at (cut n body.old)) body.old }

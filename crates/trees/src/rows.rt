@@ -104,6 +104,7 @@ fn take_key(row: &mut [u64], key: &Key, size: u64) -> bool
 }
 
 // Takes the file at a path out; says whether there was one.
+// As it stands: a bool, as the `remove` of a set answers; a Result would call a tree without the file an error.
 pub fn take_out(row: &mut [u64], path: &[u8]) -> bool
     ensures answer { result ≡ taken_from path.now row.old }
     ensures after { row.new ≡ take_from path.now row.old }

@@ -119,7 +119,8 @@ fn unpack_all(stored: &[u64], n: usize, body: &mut [u64])
     }
 }
 
-// Spreads a stored tree into a row that has room for its files.
+// Spreads a stored tree into a row that has room for its files; says whether it has.
+// As it stands: a bool, since there is one reason, and the contract states it as a test.
 pub fn spread(stored: &[u64], row: &mut [u64]) -> bool
     ensures answer { result ≡ spread_fits stored.now row.old }
     ensures after { row.new ≡ spread_into stored.now row.old }

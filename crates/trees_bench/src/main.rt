@@ -5,6 +5,7 @@ use std::time::Instant;
 use trees::rows::{find, put};
 
 // The path of 40 bytes with a number at its end.
+// As it stands: `trees_tests` has one of 64 bytes; a crate for both would be longer than the two.
 fn numbered(i: u16) -> [u8; 40] {
     let mut bytes = [97; 40];
     bytes[38..].copy_from_slice(&i.to_be_bytes());
