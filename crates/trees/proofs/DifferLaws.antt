@@ -1,7 +1,7 @@
 -- Going through two lists of entries side by side.
 use Rattle.std.proofs.Common.{◌≡◌, ℕ, zero, suc, ◌+◌, ◌-◌, ◌*◌, ◌<◌, ◌≤◌, Bool, true, false, ◌&&◌, List, [], ◌∷◌, ◌++◌, length, get_or, take, drop, Decides, Option, sym, refl, ap, ◌∙◌, ap₂, arith, length-drop}
 use Rattle.std.proofs.lemmas.Bool.{true≢false, and_from, and_parts}
-use Rattle.std.proofs.lemmas.List.{drop-drop, drop_all, get_or-drop, take_all, take_more}
+use Rattle.std.proofs.lemmas.List.{drop-drop, get_or-drop, take_all, take_more}
 use Rattle.std.proofs.lemmas.Bool.Decides.{same_from_decides}
 use Rattle.std.specs.declared.cmp.Ordering.{Ordering}
 use Rattle.std.specs.declared.cmp.Ordering.TheVariants.{Less, Equal, Greater}
@@ -15,7 +15,7 @@ use Rattle.trees.specs.declared.differences.Difference.{Difference}
 use Rattle.trees.specs.declared.differences.Place.TheVariants.{New, Changed, Gone}
 use Rattle.trees.specs.Differ.{differs, meets, difference_here, first_difference}
 use Rattle.trees.proofs.KeyLaws.{compared}
-use Rattle.trees.proofs.RowLaws.{length_cut, drop_cut, cut_more}
+use Rattle.trees.proofs.RowLaws.{drop_cut, cut_more}
 
 -- on past files that are one, and at files that are not
 pub difference_on : (ts us : Tree) (i j : ℕ) → true ≡ meets ts us → first_difference (drop 1 ts) (drop 1 us) (i + 1) (j + 1) ≡ first_difference ts us i j
@@ -48,9 +48,6 @@ entry_at ws i h =
     drop_cut i n xs ∙ cut_more n i xs h
     ∙ ap₂ (λ u v. entry (take 9 u) v ∷ cut (n - (i + 1)) (drop (10 * (i + 1)) xs)) (drop-drop (10 * i) 2 ws ∙ ap (λ m. drop m ws) a) (get_or-drop 2 ws (10 * i + 9) 0 ∙ ap (λ m. get_or ws m 0) b)
     ∙ ap (λ u. entry (take 9 (drop (10 * i + 2) ws)) (get_or ws (10 * i + 11) 0) ∷ u) (sym (drop_cut (i + 1) n xs))
-
-pub entry_past : (ws : List ℕ) (i : ℕ) → held ws ≤ i → drop i (entries_of ws) ≡ []
-entry_past ws i h = drop_all i (entries_of ws) (omega (arith, length_cut (held ws) (drop 2 ws)))
 
 -- the file at a place among entries of ten words
 pub file_at : (es : List (List ℕ)) (i : ℕ) → i < length es → drop i (each as_entry es) ≡ as_entry (get_or es i []) ∷ drop (i + 1) (each as_entry es)

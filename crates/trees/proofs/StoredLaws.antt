@@ -17,10 +17,6 @@ pub length_packed : (e : List ℕ) → 8 ≤ length e → length (packed e) ≡ 
 unfolding packed
 length_packed e h = omega (arith, length-take (needed (get_or e 8 0)) e)
 
--- the ten words of an entry among others
-pub ten_words : (xs : List ℕ) → 10 ≤ length xs → in_words (entry (take 9 xs) (get_or xs 9 0)) ≡ take 10 xs
-ten_words xs h = sym (take_more xs 9 0 (omega arith))
-
 -- one entry more
 pub cut_push : (i : ℕ) (xs : List ℕ) → cut (i + 1) xs ≡ cut i xs ++ entry (take 9 (drop (10 * i) xs)) (get_or xs (10 * i + 9) 0) ∷ []
 cut_push i xs =
