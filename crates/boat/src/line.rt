@@ -1,10 +1,9 @@
 // A line of text as a command.
 ghost use Rattle.std.specs.Prelude.{◌<◌, IfOk};
 
-use crate::escape::unescaped;
-use crate::hex;
 use crate::unread::Unread;
 use commands::{Command, spell};
+use lines::{escape, hex};
 use std::alloc::Global;
 
 #[derive(Clone, Copy)]
@@ -129,10 +128,7 @@ fn number_of<'a>(what: &'static str, word: &'a str) -> Result<u64, Unread<'a>> {
     if word.is_empty() {
         return Err(Unread::Missing(what));
     }
-    match word.parse::<u64>() {
-        Ok(number) => Ok(number),
-        Err(_) => Err(Unread::NoNumber(word)),
-    }
+    word.parse::<u64>().map_err(|_| Unread::NoNumber(word))
 }
 
 fn house_of(word: &str) -> Result<u8, Unread<'_>>
@@ -144,6 +140,11 @@ fn house_of(word: &str) -> Result<u8, Unread<'_>>
     } else {
         Err(Unread::NoHouse(number))
     }
+}
+
+// The bytes that a text with escapes stands for.
+fn unescaped<'a>(heap: Global, text: &'a str) -> Result<Vec<u8>, Unread<'a>> {
+    escape::unescaped(heap, text.as_bytes())?.ok_or(Unread::Escape(text))
 }
 
 // The bytes, if they are no more than there may be.
@@ -180,10 +181,7 @@ fn ref_of<'a>(heap: Global, word: &'a str) -> Result<Vec<u8>, Unread<'a>> {
 }
 
 fn digits_of<'a>(heap: Global, word: &'a str) -> Result<Vec<u8>, Unread<'a>> {
-    match hex::bytes_of(heap, word.as_bytes())? {
-        Some(bytes) => Ok(bytes),
-        None => Err(Unread::NoDigits(word)),
-    }
+    hex::bytes_of(heap, word.as_bytes())?.ok_or(Unread::NoDigits(word))
 }
 
 fn id_of<'a>(heap: Global, word: &'a str) -> Result<Vec<u8>, Unread<'a>> {
@@ -296,9 +294,7 @@ fn command_of<'a>(
 // The command's spelling.
 fn spelling_of<'a>(heap: Global, command: Command) -> Result<Vec<u8>, Unread<'a>> {
     let mut bytes = vec![in heap; 0u8; SPELLING]?;
-    let Some(size) = spell(command, bytes.as_mut_slice()) else {
-        return Err(Unread::NoSpelling);
-    };
+    let size = spell(command, bytes.as_mut_slice()).ok_or(Unread::NoSpelling)?;
     bytes.truncate(size);
     Ok(bytes)
 }
@@ -340,8 +336,6 @@ fn asked_in<'a>(heap: Global, line: &'a str) -> Result<Asked, Unread<'a>> {
 
 // What a line asks for.
 pub fn asked_by<'a>(heap: Global, line: &'a [u8]) -> Result<Asked, Unread<'a>> {
-    match std::str::from_utf8(line) {
-        Ok(text) => asked_in(heap, text),
-        Err(_) => Err(Unread::NoText),
-    }
+    let text = std::str::from_utf8(line).map_err(|_| Unread::NoText)?;
+    asked_in(heap, text)
 }

@@ -2,14 +2,12 @@
 #![tactic(auto)]
 
 mod driver;
-mod escape;
-mod hex;
 mod line;
 mod page_file;
 mod trouble;
 mod unread;
 
-use driver::{Driver, End, print_row};
+use driver::{Driver, print_row};
 use line::{Asked, asked_by};
 use page_file::{PageFile, is_house};
 use std::io::{BufRead, BufReader};
@@ -61,8 +59,8 @@ fn new_file(rt: &HostRuntime, path: &str, pages: Option<u64>) -> Result<PageFile
 // Asks the house with the bytes, and prints how that ended.
 fn ask(rt: &HostRuntime, driver: &mut Driver, bytes: &[u8]) -> Result<(), Trouble> {
     let said = match driver.command(rt, bytes)? {
-        End::Done => println!(rt; "done"),
-        End::Refused(number) => println!(rt; "refused {number}"),
+        Ok(()) => println!(rt; "done"),
+        Err(refused) => println!(rt; "{refused}"),
     };
     system("print", said)
 }

@@ -2,6 +2,17 @@
 use std::alloc::{AllocError, AllocFailed};
 use std::{fmt, io};
 
+// The house refused with a number.
+#[derive(Clone, Copy, Debug, PartialEq, Eq)]
+pub struct Refused(pub u64);
+
+impl fmt::Display for Refused {
+    fn fmt<W: fmt::Write>(&self, f: &mut fmt::Formatter<W>) -> fmt::Result {
+        let number = self.0;
+        write!(f, "refused {number}")
+    }
+}
+
 #[derive(Debug, Drop)]
 pub enum Trouble {
     Usage,
@@ -16,8 +27,8 @@ pub enum Trouble {
     // What could not be done, and why.
     System(&'static str, io::Error),
     Memory,
-    // The house refused to start, with a number.
-    Start(u64),
+    // The house refused to start.
+    Start(Refused),
     // The house did what no house does.
     Fault,
     // A command made more acts than any should.
@@ -30,6 +41,7 @@ impl From<AllocError> for Trouble {
     }
 }
 
+// As it stands: std has two errors of memory, and `?` wants an impl for each.
 impl<T: Drop> From<AllocFailed<T>> for Trouble {
     fn from(_error: AllocFailed<T>) -> Trouble {
         Trouble::Memory
@@ -51,7 +63,7 @@ impl fmt::Display for Trouble {
             Trouble::Differs(found, asked) => write!(f, "{found} pages, not {asked}"),
             Trouble::System(what, error) => write!(f, "cannot {what}: {error}"),
             Trouble::Memory => f.write_str("out of memory"),
-            Trouble::Start(number) => write!(f, "the house does not start: refused {number}"),
+            Trouble::Start(refused) => write!(f, "the house does not start: {refused}"),
             Trouble::Fault => f.write_str("the house did what no house does"),
             Trouble::Endless => f.write_str("the command does not end"),
         }
@@ -60,8 +72,5 @@ impl fmt::Display for Trouble {
 
 // What the system answered, or what could not be done.
 pub fn system<T: Drop>(what: &'static str, res: io::Result<T>) -> Result<T, Trouble> {
-    match res {
-        Ok(value) => Ok(value),
-        Err(error) => Err(Trouble::System(what, error)),
-    }
+    res.map_err(|error| Trouble::System(what, error))
 }

@@ -27,6 +27,7 @@ impl From<AllocError> for Unread<'_> {
     }
 }
 
+// As it stands: std has two errors of memory, and `?` wants an impl for each.
 impl<T: Drop> From<AllocFailed<T>> for Unread<'_> {
     fn from(_error: AllocFailed<T>) -> Self {
         Unread::Memory

@@ -1,5 +1,5 @@
 // What can be asked of a house. Names, paths and texts are lent from where the command was read.
-#[derive(Clone, Copy)]
+#[derive(Clone, Copy, Debug, PartialEq, Eq)]
 pub enum Command<'a> {
     // a path, bytes
     WriteFile(&'a [u8], &'a [u8]),

@@ -2,23 +2,17 @@
 ghost use Rattle.commands.specs.Laws.{ParsedBack, ParsedRight, ReadBack, SpelledOnce};
 
 // No two commands are spelled alike.
-pub fn spelled_once() -> u8
+pub fn spelled_once()
     ensures { SpelledOnce }
-{
-    0
-}
+{}
 
 // A text is parsed as a command exactly if it is spelled so and fits, and as that one.
-pub fn parsed_right() -> u8
+pub fn parsed_right()
     ensures { ParsedRight }
-{
-    0
-}
+{}
 
 // What is spelled is parsed back, from a list or from the row that it was written to.
-pub fn parsed_back() -> u8
+pub fn parsed_back()
     ensures list { ParsedBack }
     ensures row { ReadBack }
-{
-    0
-}
+{}

@@ -15,6 +15,7 @@ pub struct Parts<'a> {
 
 #[derive(Clone, Copy)]
 pub enum Piece<'a> {
+    // As it stands: no bytes, which always fit, so that each command has two pieces and one function writes each.
     Nothing,
     // a number, and the highest that it may be
     Number(u64, u64),

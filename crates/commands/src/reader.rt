@@ -10,10 +10,9 @@ use pages::bytes::number;
 fn after<'a>(text: &'a [u8]) -> &'a [u8]
     ensures { result.now ≡ behind text.now }
 {
-    if text.len() < 8 {
-        &text[text.len()..]
-    } else {
-        &text[8..]
+    match text.get(8..) {
+        Some(rest) => rest,
+        None => &[],
     }
 }
 
@@ -23,12 +22,7 @@ fn cut<'a>(text: &'a [u8]) -> (&'a [u8], &'a [u8])
     ensures rest { result.1.now ≡ past_row text.now }
 {
     let body = after(text);
-    let size = number(text);
-    if size < body.len() as u64 {
-        body.split_at(size as usize)
-    } else {
-        (body, &body[body.len()..])
-    }
+    body.split_at(number(text).min(body.len() as u64) as usize)
 }
 
 // Whether the text is just one row of low to high bytes with its length in front.
@@ -58,11 +52,11 @@ fn is_house(text: &[u8]) -> bool
     text.len() == 8 && number(text) < 16
 }
 
-// The command, if the test holds.
+// The command, if the test holds; a name for `then_some`, by which `read` is proved with no answers.
 fn when<'a>(so: bool, command: Command<'a>) -> Option<Command<'a>>
     ensures { meaning result ≡ if_so so (meant command.entry) }
 {
-    if so { Some(command) } else { None }
+    so.then_some(command)
 }
 
 // The command of a kind from what stands behind the kind.
@@ -72,6 +66,7 @@ fn read<'a>(kind: u8, text: &'a [u8]) -> Option<Command<'a>>
     let size = number(text);
     let body = after(text);
     let (row, rest) = cut(text);
+    // As it stands: the numbers are the format, and an enum of the kinds would spell them a third time.
     match kind {
         1 => when(
             is_two_rows(text, NAME, 0, TEXT),
@@ -107,8 +102,6 @@ pub fn parse<'a>(text: &'a [u8]) -> Option<Command<'a>>
     ensures is { meaning result ≡ parsed text.now }
     ensures answers { Answers text.now (meaning result) }
 {
-    match text.split_first() {
-        Some((kind, rest)) => read(*kind, rest),
-        None => None,
-    }
+    let (kind, rest) = text.split_first()?;
+    read(*kind, rest)
 }

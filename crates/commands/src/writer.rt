@@ -58,6 +58,7 @@ fn row_size(count: usize, fewest: u16, most: u16) -> Option<usize>
     ensures is { result ≡ if_so (within fewest most count) (8 + count) }
     ensures small { IfSome result (λ n. n ≤ 65543) }
 {
+    // As it stands: `then_some` would add first, and a count that does not fit may be too high for that.
     if usize::from(fewest) <= count && count <= usize::from(most) {
         Some(8 + count)
     } else {
@@ -78,6 +79,7 @@ fn measure(piece: Piece) -> Option<usize>
 }
 
 // Writes the bytes over the row from `at` on, and says where they end.
+// As it stands: a writer that holds the row and the place would repeat these clauses at each of its methods.
 fn put(out: &mut [u8], at: usize, bytes: &[u8]) -> usize
     requires { at + length bytes.now ≤ length out.old }
     ensures row { out.new ≡ written out.old at bytes.now }

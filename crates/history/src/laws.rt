@@ -2,43 +2,31 @@
 ghost use Rattle.history.specs.Laws.{IdsTell, LatestRight, LogOrder, GrowsBehind, BackRight, UnderRight};
 
 // Ids tell commits apart, as long as sums do.
-pub fn ids_tell() -> u8
+pub fn ids_tell()
     ensures { IdsTell }
-{
-    0
-}
+{}
 
 // The latest that two commits come from: the same from either side; of one that comes from the other, that other; and all that is common comes to one of them.
-pub fn latest_common_is_right() -> u8
+pub fn latest_common_is_right()
     ensures { LatestRight }
-{
-    0
-}
+{}
 
 // A log has a commit and all it comes from, each once, each before those it comes from.
-pub fn log_is_in_order() -> u8
+pub fn log_is_in_order()
     ensures { LogOrder }
-{
-    0
-}
+{}
 
 // What stands in the book stays as it is when more comes behind it.
-pub fn grows_behind() -> u8
+pub fn grows_behind()
     ensures { GrowsBehind }
-{
-    0
-}
+{}
 
 // What comes before some commits: these, with each its parents, and nothing but that; each once.
-pub fn back_is_right() -> u8
+pub fn back_is_right()
     ensures { BackRight }
-{
-    0
-}
+{}
 
 // A commit comes from itself; what it comes from is lower; and coming from goes on.
-pub fn under_is_an_order() -> u8
+pub fn under_is_an_order()
     ensures { UnderRight }
-{
-    0
-}
+{}

@@ -1,18 +1,21 @@
 -- Going through two lists of entries side by side.
-use Rattle.std.proofs.Common.{◌≡◌, ℕ, ◌+◌, ◌-◌, ◌*◌, ◌<◌, ◌≤◌, Bool, true, false, ◌&&◌, List, [], ◌∷◌, length, get_or, take, drop, Decides, Option, sym, refl, ap, ◌∙◌, ap₂, arith, length-drop}
-use Rattle.std.proofs.lemmas.Bool.{true≢false}
-use Rattle.std.proofs.lemmas.List.{drop-drop, drop_all, get_or-drop}
-use Rattle.pages.specs.Lists.{pick, same, earlier}
-use Rattle.pages.proofs.ListLaws.{pick_true, pick_false}
-use Rattle.trees.specs.Tree.{Tree, same_tree}
-use Rattle.trees.specs.Row.{entry, cut, held, entries_of}
-use Rattle.trees.specs.declared.keys.Order.{Order}
-use Rattle.trees.specs.declared.keys.Order.TheVariants.{Earlier, Same, Later}
+use Rattle.std.proofs.Common.{◌≡◌, ℕ, zero, suc, ◌+◌, ◌-◌, ◌*◌, ◌<◌, ◌≤◌, Bool, true, false, ◌&&◌, List, [], ◌∷◌, ◌++◌, length, get_or, take, drop, Decides, Option, sym, refl, ap, ◌∙◌, ap₂, arith, length-drop}
+use Rattle.std.proofs.lemmas.Bool.{true≢false, and_from, and_parts}
+use Rattle.std.proofs.lemmas.List.{drop-drop, get_or-drop, take_all, take_more}
+use Rattle.std.proofs.lemmas.Bool.Decides.{same_from_decides}
+use Rattle.std.specs.declared.cmp.Ordering.{Ordering}
+use Rattle.std.specs.declared.cmp.Ordering.TheVariants.{Less, Equal, Greater}
+use Rattle.std.specs.Ordering.{nat_cmp}
+use Rattle.std.specs.Cmp.Lexicographic.{slice_cmp}
+use Rattle.pages.specs.Lists.{pick, each, same, earlier}
+use Rattle.pages.proofs.ListLaws.{pick_true, pick_false, same_refl, same_true}
+use Rattle.trees.specs.Tree.{Tree}
+use Rattle.trees.specs.Row.{as_entry, entry, cut, held, entries_of}
 use Rattle.trees.specs.declared.differences.Difference.{Difference}
 use Rattle.trees.specs.declared.differences.Place.TheVariants.{New, Changed, Gone}
-use Rattle.trees.specs.Order.{ordered}
 use Rattle.trees.specs.Differ.{differs, meets, difference_here, first_difference}
-use Rattle.trees.proofs.RowLaws.{length_cut, drop_cut, cut_more, same_words}
+use Rattle.trees.proofs.KeyLaws.{compared}
+use Rattle.trees.proofs.RowLaws.{drop_cut, cut_more}
 
 -- on past files that are one, and at files that are not
 pub difference_on : (ts us : Tree) (i j : ℕ) → true ≡ meets ts us → first_difference (drop 1 ts) (drop 1 us) (i + 1) (j + 1) ≡ first_difference ts us i j
@@ -46,46 +49,48 @@ entry_at ws i h =
     ∙ ap₂ (λ u v. entry (take 9 u) v ∷ cut (n - (i + 1)) (drop (10 * (i + 1)) xs)) (drop-drop (10 * i) 2 ws ∙ ap (λ m. drop m ws) a) (get_or-drop 2 ws (10 * i + 9) 0 ∙ ap (λ m. get_or ws m 0) b)
     ∙ ap (λ u. entry (take 9 (drop (10 * i + 2) ws)) (get_or ws (10 * i + 11) 0) ∷ u) (sym (drop_cut (i + 1) n xs))
 
-pub entry_past : (ws : List ℕ) (i : ℕ) → held ws ≤ i → drop i (entries_of ws) ≡ []
-entry_past ws i h = drop_all i (entries_of ws) (omega (arith, length_cut (held ws) (drop 2 ws)))
+-- the file at a place among entries of ten words
+pub file_at : (es : List (List ℕ)) (i : ℕ) → i < length es → drop i (each as_entry es) ≡ as_entry (get_or es i []) ∷ drop (i + 1) (each as_entry es)
+file_at [] i h = absurd (omega arith)
+file_at (e ∷ es) zero h = refl
+file_at (e ∷ es) (suc i) h = let n : suc i + 1 ≡ suc (i + 1) = omega arith in rw n (file_at es i (omega arith))
 
-and_true : (s t : Bool) → ((s && t) && true) ≡ (s && t)
-and_true true true = refl
-and_true true false = refl
-and_true false t = refl
+pub file_past : (es : List (List ℕ)) (i : ℕ) → length es ≤ i → drop i (each as_entry es) ≡ []
+file_past [] zero h = refl
+file_past [] (suc i) h = refl
+file_past (e ∷ es) zero h = absurd (omega arith)
+file_past (e ∷ es) (suc i) h = file_past es i (omega arith)
 
 -- ten words and ten words
-pub meets_words : (xs ys : List ℕ) (i j : ℕ) (b : Bool) → i < held xs → j < held ys → 10 * i + 12 ≤ length xs → 10 * j + 12 ≤ length ys →
-    Decides b (take 10 (drop (10 * i + 2) xs) ≡ take 10 (drop (10 * j + 2) ys)) → b ≡ meets (drop i (entries_of xs)) (drop j (entries_of ys))
-unfolding cut same_tree
-meets_words xs ys i j b h k l m d =
-    let u = drop (10 * i + 2) xs in let v = drop (10 * j + 2) ys in
-    same_words 1 u v b (omega (arith, length-drop (10 * i + 2) xs)) (omega (arith, length-drop (10 * j + 2) ys)) d
-    ∙ and_true (same (take 9 u) (take 9 v)) (same (get_or u 9 0 ∷ []) (get_or v 9 0 ∷ []))
-    ∙ ap₂ (λ x y. same (take 9 u) (take 9 v) && same (x ∷ []) (y ∷ [])) (at xs i) (at ys j)
-    ∙ sym (ap₂ (λ s t. meets s t) (entry_at xs i h) (entry_at ys j k))
+pub meets_words : (a b : List ℕ) (fs gs : Tree) (t : Bool) → length a ≡ 10 → length b ≡ 10 → Decides t (a ≡ b) → t ≡ meets (as_entry a ∷ fs) (as_entry b ∷ gs)
+meets_words a b fs gs t la lb d =
+    same_from_decides t _ d (back, λ e. rw e (and_from _ _ (same_refl (take 9 b)) (same_refl (get_or b 9 0 ∷ []))))
   where
-    at : (ws : List ℕ) (n : ℕ) → get_or (drop (10 * n + 2) ws) 9 0 ≡ get_or ws (10 * n + 11) 0
-    at ws n = let e : 10 * n + 2 + 9 ≡ 10 * n + 11 = omega arith in get_or-drop (10 * n + 2) ws 9 0 ∙ ap (λ m. get_or ws m 0) e
+    ten : (e : List ℕ) → length e ≡ 10 → e ≡ take 9 e ++ get_or e 9 0 ∷ []
+    ten e l = sym (take_all 10 e (omega arith)) ∙ take_more e 9 0 (omega arith)
+
+    back : (same (take 9 a) (take 9 b) && same (get_or a 9 0 ∷ []) (get_or b 9 0 ∷ [])) ≡ true → a ≡ b
+    back e =
+        let p = and_parts _ _ e in
+        let k = same_true (take 9 a) (take 9 b) p.0 in
+        let r = same_true (get_or a 9 0 ∷ []) (get_or b 9 0 ∷ []) p.1 in
+        ten a la ∙ ap₂ (λ u v. u ++ v) k r ∙ sym (ten b lb)
 
 pub meets_none : (ts : Tree) → meets ts [] ≡ false
 meets_none [] = refl
 meets_none (f ∷ fs) = refl
 
 -- two keys decide how entries that differ do
-abbrev pub by_order : Order → ℕ → ℕ → Option Difference
-by_order Same i j = differs (Changed j) (i + 1) (j + 1)
-by_order Earlier i j = differs (Gone i) (i + 1) j
-by_order Later i j = differs (New j) i (j + 1)
+abbrev pub by_order : Ordering → ℕ → ℕ → Option Difference
+by_order Equal i j = differs (Changed j) (i + 1) (j + 1)
+by_order Less i j = differs (Gone i) (i + 1) j
+by_order Greater i j = differs (New j) i (j + 1)
 
-pub here_ordered : (xs ys : List ℕ) (i j m n : ℕ) (o : Order) → i < held xs → j < held ys → m ≡ 9 → n ≡ 9 →
-    o ≡ ordered (take m (drop (10 * i + 2) xs)) (take n (drop (10 * j + 2) ys)) → by_order o i j ≡ difference_here (drop i (entries_of xs)) (drop j (entries_of ys)) i j
-here_ordered xs ys i j m n o h k em en e =
-    let a = take 9 (drop (10 * i + 2) xs) in let b = take 9 (drop (10 * j + 2) ys) in
-    ap (λ x. by_order x i j) (e ∙ ap₂ (λ u v. ordered (take u (drop (10 * i + 2) xs)) (take v (drop (10 * j + 2) ys))) em en)
-    ∙ go (same a b) (earlier a b) ∙ sym (ap₂ (λ s t. difference_here s t i j) (entry_at xs i h) (entry_at ys j k))
+pub here_ordered : (a b : List ℕ) (fs gs : Tree) (i j : ℕ) (o : Ordering) → o ≡ slice_cmp nat_cmp (take 9 a) (take 9 b) →
+    by_order o i j ≡ difference_here (as_entry a ∷ fs) (as_entry b ∷ gs) i j
+here_ordered a b fs gs i j o e = ap (λ x. by_order x i j) (e ∙ compared (take 9 a) (take 9 b)) ∙ go (same (take 9 a) (take 9 b)) (earlier (take 9 a) (take 9 b))
   where
-    go : (s e : Bool) → by_order (pick s Same (pick e Earlier Later)) i j ≡ pick s (differs (Changed j) (i + 1) (j + 1)) (pick e (differs (Gone i) (i + 1) j) (differs (New j) i (j + 1)))
+    go : (s e : Bool) → by_order (pick s Equal (pick e Less Greater)) i j ≡ pick s (differs (Changed j) (i + 1) (j + 1)) (pick e (differs (Gone i) (i + 1) j) (differs (New j) i (j + 1)))
     go true e = refl
     go false true = refl
     go false false = refl

@@ -2,6 +2,7 @@ pub mod TreeLaws
 pub mod JoinLaws
 pub mod KeyLaws
 pub mod RowLaws
+pub mod EntryLaws
 pub mod MoveLaws
 pub mod PutLaws
 pub mod DifferLaws

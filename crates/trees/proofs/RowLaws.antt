@@ -1,14 +1,12 @@
 -- Laws of tree rows: how a row is cut into entries, where a search stops in them, and what is written.
-use Rattle.std.proofs.Common.{◌≡◌, ℕ, zero, suc, ◌+◌, ◌-◌, ◌*◌, ◌<◌, ◌≤◌, Bool, true, false, ◌&&◌, List, [], ◌∷◌, ◌++◌, length, get_or, take, drop, set, Some, None, Decides, sym, refl, ap, ◌∙◌, ap₂, append_assoc, append-nil, arith, length-drop, take-add}
+use Rattle.std.proofs.Common.{◌≡◌, ℕ, zero, suc, ◌+◌, ◌-◌, ◌*◌, ◌<◌, ◌≤◌, Bool, true, false, ◌&&◌, List, [], ◌∷◌, ◌++◌, length, get_or, take, drop, set, Some, None, sym, refl, ap, ◌∙◌, ap₂, append_assoc, append-nil, arith, length-drop, take-add}
 use native.Mathlib.Nat.{sub-zero}
 use borrow.Rule.Slice.PartMut.{put_mid}
 use Rattle.std.proofs.lemmas.Bool.{false≢true}
 use Rattle.std.proofs.lemmas.List.{drop-drop, get_or-drop, drop_all, take_more, take_rest, take-take, get_or-take, drop-take}
-use Rattle.std.proofs.lemmas.Bool.Decides.{same_from_decides}
 use Rattle.pages.specs.Lists.{pick, or, each, flat, same, earlier, first_of}
-use Rattle.pages.proofs.ListLaws.{pick_both, pick_true, pick_false, false_unless, same_sym}
-use Rattle.trees.specs.Tree.{Tree, found, put, without, same_tree}
-use Rattle.trees.proofs.TreeLaws.{same_tree_tells}
+use Rattle.pages.proofs.ListLaws.{pick_both, pick_true, pick_false, same_sym}
+use Rattle.trees.specs.Tree.{Tree, found, put, without}
 use Rattle.trees.specs.Order.{spot, halts, there}
 use Rattle.trees.specs.Row.{entry, cut, in_words, laid, rewritten, held, entries_of}
 
@@ -174,14 +172,3 @@ pub rewritten_same : (ws b : List ℕ) (es : Tree) (c : ℕ) → 2 ≤ length ws
 rewritten_same [] b es c h e l = absurd (omega arith)
 rewritten_same (x ∷ []) b es c h e l = absurd (omega arith)
 rewritten_same (x ∷ y ∷ ws) b es c h e l = rewritten_is (x ∷ y ∷ ws) b es c y h e l
-
--- entries are the same exactly if their words are
-pub same_words : (n : ℕ) (xs ys : List ℕ) (b : Bool) → 10 * n ≤ length xs → 10 * n ≤ length ys → Decides b (take (10 * n) xs ≡ take (10 * n) ys) → b ≡ same_tree (cut n xs) (cut n ys)
-same_words n xs ys b h k d =
-    let t = same_tree_tells (cut n xs) (cut n ys) in
-    same_from_decides b (same_tree (cut n xs) (cut n ys)) d
-    (λ e. sym (flat_cut n xs h) ∙ ap (flat in_words) (t.0 e) ∙ flat_cut n ys k, λ e. t.1 (sym (cut_take n xs) ∙ ap (cut n) e ∙ cut_take n ys))
-
-pub same_many : (m n : ℕ) (xs ys : List ℕ) → (m ≡ n → ⊥) → false ≡ same_tree (cut m xs) (cut n ys)
-same_many m n xs ys h =
-    sym (false_unless (same_tree (cut m xs) (cut n ys)) (λ e. h (sym (length_cut m xs) ∙ ap length ((same_tree_tells (cut m xs) (cut n ys)).0 e) ∙ length_cut n ys)))

@@ -1,8 +1,8 @@
 -- Stored entries spread into a row.
-use Rattle.std.proofs.Common.{◌≡◌, ℕ, zero, suc, ◌+◌, ◌-◌, ◌*◌, ◌<◌, ◌≤◌, true, false, leb, List, [], ◌∷◌, ◌++◌, length, get_or, take, drop, set, sym, refl, ap, ◌∙◌, ap₂, append_assoc, append-nil, add-zero, arith, length-append, length-set, length-take}
+use Rattle.std.proofs.Common.{◌≡◌, ℕ, zero, suc, ◌+◌, ◌-◌, ◌*◌, ◌<◌, ◌≤◌, true, false, leb, List, [], ◌∷◌, ◌++◌, length, get_or, take, drop, set, sym, refl, ap, ◌∙◌, ap₂, append_assoc, append-nil, add-zero, arith, length-append, length-take}
 use borrow.Rule.Slice.PartMut.{put_mid}
 use Rattle.std.proofs.lemmas.Bool.{le-leb, and_from}
-use Rattle.std.proofs.lemmas.List.{drop-drop, get_or-drop, get_or-take, get_or_past, get_or_at, take_at, drop_at, take_all, length-take-le, take_more_set, take-append-drop}
+use Rattle.std.proofs.lemmas.List.{drop-drop, get_or-drop, get_or-take, get_or_past, get_or_at, get_or_append_left, take_at, drop_at, length-take-le, take-append-drop}
 use Rattle.pages.specs.Lists.{flat, zeros}
 use Rattle.pages.proofs.ListLaws.{pick_true, pick_false}
 use Rattle.pages.proofs.WordLaws.{length_zeros}
@@ -29,13 +29,6 @@ path_word_in xs at k i h = sym (get_or_zeros_behind (take k (drop at xs)) 8 i �
 pub path_word_past : (xs : List ℕ) (at k i : ℕ) → k ≤ i → 0 ≡ get_or (take k (drop at xs) ++ zeros 8) i 0
 path_word_past xs at k i h = sym (get_or_zeros_behind (take k (drop at xs)) 8 i ∙ get_or_past (take k (drop at xs)) i 0 (omega (arith, length-take k (drop at xs))))
 
--- ten words made one by one
-pub ten_made : (ws ys : List ℕ) (i s r : ℕ) → i ≡ 8 → length ws ≡ 10 → take i ws ≡ take i ys → set (set ws 8 s) 9 r ≡ (take 8 ys ++ s ∷ []) ++ r ∷ []
-ten_made ws ys i s r e l h =
-    sym (take_all 10 (set (set ws 8 s) 9 r) (omega (arith, length-set (set ws 8 s) 9 r, length-set ws 8 s)))
-    ∙ take_more_set (set ws 8 s) 9 r (omega (arith, length-set ws 8 s)) ∙ ap (λ u. u ++ r ∷ []) (take_more_set ws 8 s (omega arith))
-    ∙ ap (λ u. (u ++ s ∷ []) ++ r ∷ []) (sym (ap (λ n. take n ws) e) ∙ h ∙ ap (λ n. take n ys) e)
-
 pub unpacked_words : (xs : List ℕ) (at size k r : ℕ) → size ≡ get_or xs (at + 1) 0 → k ≡ needed size → r ≡ get_or xs at 0 →
     (take 8 (take k (drop (at + 2) xs) ++ zeros 8) ++ size ∷ []) ++ r ∷ [] ≡ in_words (unpacked (drop at xs))
 unfolding unpacked
@@ -45,12 +38,31 @@ unpacked_words xs at size k r es ek er =
     ap₂ (λ n ys. (take 8 (take n ys ++ zeros 8) ++ size ∷ []) ++ r ∷ []) (ek ∙ ap needed s) (sym (drop-drop 2 at xs))
     ∙ ap₂ (λ x y. (take 8 (take (needed (get_or (drop at xs) 1 0)) (drop 2 (drop at xs)) ++ zeros 8) ++ x ∷ []) ++ y ∷ []) s q
 
+-- a word of them: of the path, its length, and the reference
+module _ (front : List ℕ) (s r : ℕ) (e : length front ≡ 8) where
+  pub word_path : (i : ℕ) → i < 8 → get_or ((front ++ s ∷ []) ++ r ∷ []) i 0 ≡ get_or front i 0
+  word_path i h =
+      get_or_append_left (front ++ s ∷ []) (r ∷ []) 0 i (omega (arith, length-append front (s ∷ []))) ∙ get_or_append_left front (s ∷ []) 0 i (omega arith)
+
+  pub word_size : get_or ((front ++ s ∷ []) ++ r ∷ []) 8 0 ≡ s
+  word_size = get_or_append_left (front ++ s ∷ []) (r ∷ []) 0 8 (omega (arith, length-append front (s ∷ []))) ∙ get_or_at front s [] 0 8 e
+
+  pub word_reference : get_or ((front ++ s ∷ []) ++ r ∷ []) 9 0 ≡ r
+  word_reference = get_or_at (front ++ s ∷ []) r [] 0 9 (omega (arith, length-append front (s ∷ [])))
+
+pub length_front : (p : List ℕ) → length (take 8 (p ++ zeros 8)) ≡ 8
+length_front p = omega (arith, length-take 8 (p ++ zeros 8), length-append p (zeros 8), length_zeros 8)
+
 -- an entry that was stored has nine words for its key
 length_unpacked : (xs : List ℕ) → length (unpacked xs).path ≡ 9
 unfolding unpacked
 length_unpacked xs =
     let p = take (needed (get_or xs 1 0)) (drop 2 xs) in
     omega (arith, length-append (take 8 (p ++ zeros 8)) (get_or xs 1 0 ∷ []), length-take 8 (p ++ zeros 8), length-append p (zeros 8), length_zeros 8)
+
+pub length_words : (xs : List ℕ) → length (in_words (unpacked xs)) ≡ 10
+unfolding unpacked
+length_words xs = omega (arith, length_unpacked xs, length-append (unpacked xs).path (get_or xs 0 0 ∷ []))
 
 -- one entry more is spread
 pub spread_more : (i n at at' k : ℕ) (xs body was new : List ℕ) → i < n → 10 * n ≤ length body → k ≡ 10 → new ≡ in_words (unpacked (drop at xs)) → at' ≡ at + stride (drop at xs) →

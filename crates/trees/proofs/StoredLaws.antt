@@ -1,21 +1,21 @@
 -- Entries as they are stored: how many words they take, and where each one stands.
 use Rattle.std.proofs.Common.{◌≡◌, ℕ, suc, ◌+◌, ◌-◌, ◌*◌, ◌<◌, ◌≤◌, true, false, leb, List, [], ◌∷◌, ◌++◌, length, get_or, take, drop, set, Some, None, sym, refl, ap, ◌∙◌, ap₂, append_assoc, append-nil, arith, length-append, length-drop, length-set, length-take}
 use borrow.Rule.Slice.PartMut.{put_mid}
-use Rattle.std.proofs.lemmas.List.{drop-drop, get_or-drop, get_or-take, take_at, drop_at, length-take-le, take_more, take_more_set, drop-set-lt, take-append-drop, drop_all, take_all}
+use Rattle.std.proofs.lemmas.List.{drop-drop, take_at, drop_at, length-take-le, take_more, take_more_set, drop-set-lt, take-append-drop, drop_all, take_all}
 use Rattle.std.proofs.lemmas.Bool.{le-leb, lt-leb}
 use Rattle.pages.proofs.ListLaws.{pick_true, pick_false}
+use Rattle.std.specs.List.{sum_by}
+use Rattle.std.proofs.lemmas.List.Sums.{sum_by-cons}
+use Rattle.pages.specs.Lists.{each, flat}
 use Rattle.pages.specs.Words.{over}
-use Rattle.trees.specs.Row.{entry, cut, held, entries_of, in_words}
+use Rattle.trees.specs.Row.{entry, cut, held, entries_of, in_words, tens}
 use Rattle.trees.specs.Packed.{heading, needed, packed, packed_all, squeezed, squeeze_answer, squeeze_into}
 use Rattle.trees.proofs.RowLaws.{take_cut, drop_cut, cut_more, flat_append}
+use Rattle.trees.proofs.EntryLaws.{get_tens, held_within, length_tens, words_tens}
 
 pub length_packed : (e : List ℕ) → 8 ≤ length e → length (packed e) ≡ 2 + needed (get_or e 8 0)
 unfolding packed
 length_packed e h = omega (arith, length-take (needed (get_or e 8 0)) e)
-
--- the ten words of an entry among others
-pub ten_words : (xs : List ℕ) → 10 ≤ length xs → in_words (entry (take 9 xs) (get_or xs 9 0)) ≡ take 10 xs
-ten_words xs h = sym (take_more xs 9 0 (omega arith))
 
 -- one entry more
 pub cut_push : (i : ℕ) (xs : List ℕ) → cut (i + 1) xs ≡ cut i xs ++ entry (take 9 (drop (10 * i) xs)) (get_or xs (10 * i + 9) 0) ∷ []
@@ -27,32 +27,48 @@ cut_push i xs =
     last : cut i xs ++ entry (take 9 (drop (10 * i) xs)) (get_or xs (10 * i + 9) 0) ∷ cut 0 (drop (10 * (i + 1)) xs) ≡ cut i xs ++ entry (take 9 (drop (10 * i) xs)) (get_or xs (10 * i + 9) 0) ∷ []
     last = unfold cut in refl
 
-pub packed_push : (i : ℕ) (xs : List ℕ) → 10 * i + 10 ≤ length xs → packed_all (cut (i + 1) xs) ≡ packed_all (cut i xs) ++ packed (take 10 (drop (10 * i) xs))
-packed_push i xs h =
-    ap packed_all (cut_push i xs) ∙ flat_append (λ f. packed (in_words f)) (cut i xs) (entry (take 9 (drop (10 * i) xs)) (get_or xs (10 * i + 9) 0) ∷ [])
-    ∙ ap (λ u. packed_all (cut i xs) ++ u)
-    (append-nil (packed (in_words (entry (take 9 (drop (10 * i) xs)) (get_or xs (10 * i + 9) 0))))
-    ∙ ap packed (ap (λ r. take 9 (drop (10 * i) xs) ++ r ∷ []) (sym (get_or-drop (10 * i) xs 9 0)) ∙ ten_words (drop (10 * i) xs) (omega (arith, length-drop (10 * i) xs))))
+-- the entries of a row, one after another
+flat_each : {A : Type 0} (f : List ℕ → List ℕ) (g : A → List ℕ) (xs : List A) → flat (λ x. f (g x)) xs ≡ flat f (each g xs)
+flat_each f g [] = refl
+flat_each f g (x ∷ xs) = ap (λ u. f (g x) ++ u) (flat_each f g xs)
 
--- how long an entry is when it's stored, by its length word
-pub length_at : (i : ℕ) (xs : List ℕ) → 10 * i + 10 ≤ length xs → length (packed (take 10 (drop (10 * i) xs))) ≡ 2 + needed (get_or xs (10 * i + 8) 0)
-length_at i xs h =
-    length_packed (take 10 (drop (10 * i) xs)) (omega (arith, length-take 10 (drop (10 * i) xs), length-drop (10 * i) xs))
-    ∙ ap (λ n. 2 + needed n) (get_or-take 10 (drop (10 * i) xs) 8 0 (omega arith) ∙ get_or-drop (10 * i) xs 8 0)
+pub packed_entries : (ws : List ℕ) (es : List (List ℕ)) → es ≡ tens (held ws) (drop 2 ws) → flat packed es ≡ packed_all (entries_of ws)
+packed_entries ws es e =
+    ap (flat packed) (e ∙ sym (words_tens (held ws) (drop 2 ws) (held_within ws))) ∙ sym (flat_each packed in_words (entries_of ws))
 
-pub packed_within : (i n : ℕ) (xs : List ℕ) → i < n → 10 * n ≤ length xs →
-    length (packed_all (cut i xs)) + length (packed (take 10 (drop (10 * i) xs))) ≤ length (packed_all (cut n xs))
-packed_within i n xs h l =
-    let front : packed_all (cut n xs) ≡ packed_all (cut (i + 1) xs) ++ packed_all (drop (i + 1) (cut n xs)) =
-    ap packed_all (sym (take-append-drop (i + 1) (cut n xs))) ∙ flat_append (λ f. packed (in_words f)) (take (i + 1) (cut n xs)) (drop (i + 1) (cut n xs))
-    ∙ ap (λ u. packed_all u ++ packed_all (drop (i + 1) (cut n xs))) (take_cut (i + 1) n xs (omega arith)) in
+pub packed_push : (i : ℕ) (es : List (List ℕ)) → i < length es → flat packed (take (i + 1) es) ≡ flat packed (take i es) ++ packed (get_or es i [])
+packed_push i es h =
+    ap (flat packed) (take_more es i [] h) ∙ flat_append packed (take i es) (get_or es i [] ∷ []) ∙ ap (λ u. flat packed (take i es) ++ u) (append-nil (packed (get_or es i [])))
+
+pub packed_within : (i : ℕ) (es : List (List ℕ)) → i < length es → length (flat packed (take i es)) + length (packed (get_or es i [])) ≤ length (flat packed es)
+packed_within i es h =
+    let whole : flat packed es ≡ flat packed (take (i + 1) es) ++ flat packed (drop (i + 1) es) =
+    ap (flat packed) (sym (take-append-drop (i + 1) es)) ∙ flat_append packed (take (i + 1) es) (drop (i + 1) es) in
     omega (
       arith,
-      ap length front,
-      length-append (packed_all (cut (i + 1) xs)) (packed_all (drop (i + 1) (cut n xs))),
-      ap length (packed_push i xs (omega arith)),
-      length-append (packed_all (cut i xs)) (packed (take 10 (drop (10 * i) xs))),
+      ap length whole,
+      length-append (flat packed (take (i + 1) es)) (flat packed (drop (i + 1) es)),
+      ap length (packed_push i es h),
+      length-append (flat packed (take i es)) (packed (get_or es i [])),
     )
+
+-- how many words they take
+pub measured : (es : List (List ℕ)) → ((i : ℕ) → i < length es → length (get_or es i []) ≡ 10) →
+    (sum_by (λ e. 2 + needed (get_or e 8 0)) es ≡ length (flat packed es)) × (sum_by (λ e. 2 + needed (get_or e 8 0)) es ≤ 10 * length es)
+measured [] p = (refl, omega arith)
+measured (e ∷ es) p =
+    let r = measured es (λ i h. p (suc i) (omega arith)) in
+    let c = sum_by-cons (λ e. 2 + needed (get_or e 8 0)) e es in
+    let l = length_packed e (omega (arith, p 0 (omega arith))) in
+    (omega (arith, r.0, c, l, length-append (packed e) (flat packed es)), omega (arith, r.1, c))
+
+pub measured_entries : (ws : List ℕ) (es : List (List ℕ)) → es ≡ tens (held ws) (drop 2 ws) →
+    (sum_by (λ e. 2 + needed (get_or e 8 0)) es ≡ length (flat packed es)) × (sum_by (λ e. 2 + needed (get_or e 8 0)) es ≤ 40960)
+measured_entries ws es e =
+    let n : length es ≡ held ws = ap length e ∙ length_tens (held ws) (drop 2 ws) in
+    let m = measured es (λ i h. ap (λ xs. length (get_or xs i [])) e ∙ ap length (get_tens (held ws) i (drop 2 ws) (omega arith))
+    ∙ length-take-le 10 (drop (10 * i) (drop 2 ws)) (omega (arith, held_within ws, length-drop (10 * i) (drop 2 ws)))) in
+    (m.0, omega (arith, m.1, n))
 
 -- new words right behind what was written before
 pub over_behind : (at : ℕ) (front was new out : List ℕ) → length front ≡ at → out ≡ front ++ drop at was → over at new out ≡ (front ++ new) ++ drop (at + length new) was

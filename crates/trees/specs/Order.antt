@@ -1,12 +1,8 @@
--- Which of two rows of numbers comes first: one order, of which `same` and `earlier` are the two tests.
-use Rattle.std.specs.Prelude.{ℕ, suc, Bool, false, not, ◌&&◌, List, [], ◌∷◌}
-use Rattle.pages.specs.Lists.{pick, or, same, earlier}
-use Rattle.trees.specs.declared.keys.Order.{Order}
-use Rattle.trees.specs.declared.keys.Order.TheVariants.{Earlier, Same, Later}
+-- Where a search for a key stops among entries.
+use Rattle.std.specs.Prelude.{◌≡◌, ℕ, suc, Bool, true, false, not, ◌&&◌, List, [], ◌∷◌, drop}
+use Rattle.pages.specs.Lists.{pick, or, each, same, earlier}
 use Rattle.trees.specs.Tree.{Tree}
-
-abbrev pub ordered : List ℕ → List ℕ → Order
-ordered xs ys = pick (same xs ys) Same (pick (earlier xs ys) Earlier Later)
+use Rattle.trees.specs.Row.{as_entry}
 
 -- a search for a key stops at the key itself; one for its place also at the first key behind it
 abbrev pub halts : Bool → List ℕ → List ℕ → Bool
@@ -21,3 +17,10 @@ spot exact k (f ∷ fs) = pick (halts exact k f.path) 0 (suc (spot exact k fs))
 abbrev pub there : List ℕ → Tree → Bool
 there k [] = false
 there k (f ∷ fs) = same k f.path
+
+-- a key stands at a place among entries of ten words, or belongs there
+abbrev pub StandsAt : List ℕ → List (List ℕ) → ℕ → Type 0
+StandsAt k es at = (at ≡ spot false k (each as_entry es)) × (there k (drop at (each as_entry es)) ≡ true)
+
+abbrev pub BelongsAt : List ℕ → List (List ℕ) → ℕ → Type 0
+BelongsAt k es at = (at ≡ spot false k (each as_entry es)) × (there k (drop at (each as_entry es)) ≡ false)

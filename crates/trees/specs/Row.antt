@@ -2,6 +2,7 @@
 -- and padded with zeros (eight words), its length, and a reference, a number that stands for the file's bytes.
 -- An entry is a file again: its path is the nine words of path and length, the key; its bytes are the one reference. Assumes nothing: these are definitions, total on any row.
 use Rattle.std.specs.Prelude.{ℕ, zero, suc, ◌+◌, ◌-◌, ◌*◌, ◌/◌, min, Bool, not, ◌&&◌, List, [], ◌∷◌, ◌++◌, length, take, drop, Some, None, Ok, Err, Option, Result, nat_le, nat_lt, slice_index}
+use Rattle.std.specs.Simd.{first_chunks}
 use Rattle.pages.specs.Lists.{pick, flat, first_or, none_of, zeros}
 use Rattle.pages.specs.Words.{words, bytes_of}
 use Rattle.trees.specs.declared.rows.Refused.{Refused}
@@ -30,6 +31,14 @@ entry k r = record { path = k; bytes = r ∷ [] }
 unfoldable pub cut : ℕ → List ℕ → Tree
 cut zero ws = []
 cut (suc n) ws = entry (take 9 ws) (slice_index ws 9) ∷ cut n (drop 10 ws)
+
+-- ten words as an entry
+abbrev pub as_entry : List ℕ → File
+as_entry e = entry (take 9 e) (slice_index e 9)
+
+-- the first words, ten and ten
+abbrev pub tens : ℕ → List ℕ → List (List ℕ)
+tens n ws = first_chunks 10 n ws
 
 -- how many entries a row has room for
 abbrev pub room : List ℕ → ℕ

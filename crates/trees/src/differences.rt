@@ -1,20 +1,21 @@
 // Where two tree rows differ.
 ghost use Rattle.std.specs.Prelude.{◌≡◌, drop};
+ghost use Rattle.pages.specs.Lists.{each};
 ghost use Rattle.trees.specs.Differ.{difference_from, difference_here, differs as told, meets};
-ghost use Rattle.trees.specs.Row.{entries_of};
+ghost use Rattle.trees.specs.Row.{as_entry};
 
-use crate::keys::{Order, compare};
-use crate::rows::count;
+use crate::entries::{Entry, entries, order};
+use std::cmp::Ordering;
 
 // A place in each of two rows, in files.
-#[derive(Clone, Copy)]
+#[derive(Clone, Copy, Debug, Default, PartialEq, Eq)]
 pub struct Cursor {
     pub old: usize,
     pub new: usize,
 }
 
 // A file that is new or changed, by its place in the new row, or gone, by its place in the old one.
-#[derive(Clone, Copy)]
+#[derive(Clone, Copy, Debug, PartialEq, Eq)]
 pub enum Place {
     New(usize),
     Changed(usize),
@@ -22,7 +23,7 @@ pub enum Place {
 }
 
 // A difference, and from where to look for the next one.
-#[derive(Clone, Copy)]
+#[derive(Clone, Copy, Debug, PartialEq, Eq)]
 pub struct Difference {
     pub place: Place,
     pub next: Cursor,
@@ -36,35 +37,28 @@ fn differs(place: Place, old: usize, new: usize) -> Option<Difference>
 }
 
 // Whether the files at two places are there and are one.
-fn alike(old: &[u64], new: &[u64], i: usize, j: usize) -> bool
-    ensures { result ≡ meets (drop i (entries_of old.now)) (drop j (entries_of new.now)) }
+fn alike(old: &[Entry], new: &[Entry], i: usize, j: usize) -> bool
+    ensures { result ≡ meets (drop i (each as_entry old.now)) (drop j (each as_entry new.now)) }
 {
-    if i >= count(old) {
-        return false;
+    match (old.get(i), new.get(j)) {
+        (Some(old), Some(new)) => old == new,
+        _ => false,
     }
-    if j >= count(new) {
-        return false;
-    }
-    &old[10 * i + 2..10 * i + 12] == &new[10 * j + 2..10 * j + 12]
 }
 
 // How the files at two places differ.
-fn here(old: &[u64], new: &[u64], i: usize, j: usize) -> Option<Difference>
-    ensures { result ≡ difference_here (drop i (entries_of old.now)) (drop j (entries_of new.now)) i j }
+fn here(old: &[Entry], new: &[Entry], i: usize, j: usize) -> Option<Difference>
+    ensures { result ≡ difference_here (drop i (each as_entry old.now)) (drop j (each as_entry new.now)) i j }
 {
-    if i >= count(old) {
-        if j >= count(new) {
-            return None;
-        }
-        return differs(Place::New(j), i, j + 1);
-    }
-    if j >= count(new) {
-        return differs(Place::Gone(i), i + 1, j);
-    }
-    match compare(&old[10 * i + 2..10 * i + 11], &new[10 * j + 2..10 * j + 11]) {
-        Order::Same => differs(Place::Changed(j), i + 1, j + 1),
-        Order::Earlier => differs(Place::Gone(i), i + 1, j),
-        Order::Later => differs(Place::New(j), i, j + 1),
+    match (old.get(i), new.get(j)) {
+        (None, None) => None,
+        (None, Some(_)) => differs(Place::New(j), i, j + 1),
+        (Some(_), None) => differs(Place::Gone(i), i + 1, j),
+        (Some(old), Some(new)) => match order(old, new) {
+            Ordering::Equal => differs(Place::Changed(j), i + 1, j + 1),
+            Ordering::Less => differs(Place::Gone(i), i + 1, j),
+            Ordering::Greater => differs(Place::New(j), i, j + 1),
+        },
     }
 }
 
@@ -72,6 +66,7 @@ fn here(old: &[u64], new: &[u64], i: usize, j: usize) -> Option<Difference>
 pub fn differ(old: &[u64], new: &[u64], from: Cursor) -> Option<Difference>
     ensures { result ≡ difference_from old.now new.now from }
 {
+    let (old, new) = (entries(old), entries(new));
     let mut i = from.old;
     let mut j = from.new;
     while alike(old, new, i, j) {

@@ -1,44 +1,91 @@
 // Entries of a tree row, ten words each: a key and a reference.
-ghost use Rattle.std.specs.Prelude.{◌≡◌, ◌+◌, ◌-◌, ◌*◌, ◌<◌, ◌≤◌, [], ◌∷◌, ◌++◌, length, take, drop};
-ghost use Rattle.trees.specs.Row.{cut, entry, laid};
+ghost use Rattle.std.specs.Prelude.{◌≡◌, ◌+◌, ◌*◌, ◌<◌, ◌≤◌, [], ◌∷◌, ◌++◌, length, take, drop, position, MatchResult, false};
+ghost use Rattle.std.specs.Cmp.Lexicographic.{slice_cmp};
+ghost use Rattle.std.specs.Ordering.{nat_cmp};
+ghost use Rattle.pages.specs.Lists.{same};
+ghost use Rattle.trees.specs.Order.{BelongsAt, StandsAt, halts};
+ghost use Rattle.trees.specs.Row.{cut, entry, held, laid, tens};
+
+use crate::keys::Key;
+use crate::rows::count;
+use std::cmp::Ordering;
+
+pub(crate) type Entry = [u64; 10];
+
+// The entries that a row holds.
+pub(crate) fn entries(row: &[u64]) -> &[Entry]
+    ensures is { result.now ≡ tens (held row.now) (drop 2 row.now) }
+    ensures many { length result.now ≡ held row.now }
+{
+    let Some(body) = row.get(2..) else {
+        return &[];
+    };
+    let (entries, _) = body.as_chunks::<10>();
+    &entries[..count(row)]
+}
+
+// How two entries come one after another.
+pub(crate) fn order(a: &Entry, b: &Entry) -> Ordering
+    ensures { result ≡ slice_cmp nat_cmp (take 9 a.now) (take 9 b.now) }
+{
+    a[..9].cmp(&b[..9])
+}
+
+// Whether an entry stands at a key.
+pub(crate) fn is_at(entry: &Entry, key: &Key) -> bool
+    ensures { result ≡ same key.now (take 9 entry.now) }
+{
+    key.as_slice() == &entry[..9]
+}
+
+// Whether a key comes before an entry, or is the entry's own.
+fn is_up_to(key: &Key, entry: &Entry) -> bool
+    ensures { result ≡ halts false key.now (take 9 entry.now) }
+{
+    key.as_slice().cmp(&entry[..9]).is_le()
+}
+
+// Which entry stands at a key.
+pub(crate) fn index_of(entries: &[Entry], key: &Key) -> Option<usize>
+    ensures { result ≡ position (λ e. same key.now (take 9 e)) entries.now }
+{
+    entries.iter().position(|entry| is_at(entry, key))
+}
+
+// The first entry that a key is not behind.
+fn next_to(entries: &[Entry], key: &Key) -> Option<usize>
+    ensures { result ≡ position (λ e. halts false key.now (take 9 e)) entries.now }
+{
+    entries.iter().position(|entry| is_up_to(key, entry))
+}
+
+// Where a key stands among entries, or else where it belongs.
+pub(crate) fn place_of(entries: &[Entry], key: &Key) -> Result<usize, usize>
+    ensures { MatchResult result (StandsAt key.now entries.now) (BelongsAt key.now entries.now) }
+{
+    let at = next_to(entries, key).unwrap_or(entries.len());
+    match entries.get(at) {
+        Some(entry) if is_at(entry, key) => Ok(at),
+        _ => Err(at),
+    }
+}
 
 // The ten words of an entry.
-fn ten(key: &[u64], reference: u64) -> [u64; 10]
-    requires { length key.now ≡ 9 }
+fn ten(key: &Key, reference: u64) -> Entry
     ensures { result ≡ key.now ++ reference ∷ [] }
 {
-    let mut words = [0; 10];
-    words[0..9].copy_from_slice(key);
-    words[9] = reference;
+    let mut words = [reference; 10];
+    words[..9].copy_from_slice(key);
     words
 }
 
-// Moves the words of a part up by ten.
-fn open_gap(body: &mut [u64], from: usize, to: usize)
-    requires { (from ≤ to) × (to + 10 ≤ length body.old) }
-    ensures { body.new ≡ take (from + 10) body.old ++ (take (to - from) (drop from body.old) ++ drop (to + 10) body.old) }
-{
-    for i in (from..to).rev() {
-        body[i + 10] = body[i];
-    }
-}
-
-// Moves words down by ten into a part.
-fn close_gap(body: &mut [u64], from: usize, to: usize)
-    requires { (from ≤ to) × (to + 10 ≤ length body.old) }
-    ensures { body.new ≡ take from body.old ++ (take (to - from) (drop (from + 10) body.old) ++ drop to body.old) }
-{
-    for i in from..to {
-        body[i] = body[i + 10];
-    }
-}
-
 // An entry more at a place among n.
-pub(crate) fn insert(body: &mut [u64], n: usize, at: usize, key: &[u64], reference: u64)
-    requires { (at ≤ n) × ((10 * n + 10 ≤ length body.old) × (length key.now ≡ 9)) }
+// As it stands: the words and the number of entries, since std says nothing of what a slice holds after `as_chunks_mut`.
+pub(crate) fn insert(body: &mut [u64], n: usize, at: usize, key: &Key, reference: u64)
+    requires { (at ≤ n) × (10 * n + 10 ≤ length body.old) }
     ensures { body.new ≡ laid (take at (cut n body.old) ++ entry key.now reference ∷ drop at (cut n body.old)) body.old }
 {
-    open_gap(body, 10 * at, 10 * n);
+    body.copy_within(10 * at..10 * n, 10 * at + 10);
     body[10 * at..10 * at + 10].copy_from_slice(&ten(key, reference));
 }
 
@@ -47,12 +94,12 @@ pub(crate) fn remove(body: &mut [u64], n: usize, at: usize)
     requires { (at < n) × (10 * n ≤ length body.old) }
     ensures { body.new ≡ laid (take at (cut n body.old) ++ drop (at + 1) (cut n body.old)) body.old }
 {
-    close_gap(body, 10 * at, 10 * n - 10);
+    body.copy_within(10 * at + 10..10 * n, 10 * at);
 }
 
 // An entry in place of the one at a place among n.
-pub(crate) fn replace(body: &mut [u64], n: usize, at: usize, key: &[u64], reference: u64)
-    requires { (at < n) × ((10 * n ≤ length body.old) × (length key.now ≡ 9)) }
+pub(crate) fn replace(body: &mut [u64], n: usize, at: usize, key: &Key, reference: u64)
+    requires { (at < n) × (10 * n ≤ length body.old) }
     ensures { body.new ≡ laid (take at (cut n body.old) ++ entry key.now reference ∷ drop (at + 1) (cut n body.old)) body.old }
 {
     body[10 * at..10 * at + 10].copy_from_slice(&ten(key, reference));

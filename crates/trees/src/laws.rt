@@ -3,85 +3,61 @@ ghost use Rattle.trees.specs.Laws.{JoinedRight, OneSide, FilesFound, OneTree};
 ghost use Rattle.trees.specs.RowPromises.{DiffersRight, EmptyRight, FindsRight, KeysOrdered, PutsRight, SameRight, StoredRight, TakesRight};
 
 // After joining there is at each path what the rule says; a clash is one from either side, and where there is none both sides come to the same.
-pub fn joins_rightly() -> u8
+pub fn joins_rightly()
     ensures { JoinedRight }
-{
-    0
-}
+{}
 
 // What only one side changed is as that side has it.
-pub fn one_side_is_taken() -> u8
+pub fn one_side_is_taken()
     ensures { OneSide }
-{
-    0
-}
+{}
 
 // What is found after a file is put or taken out, at its own path and at another.
-pub fn files_are_found() -> u8
+pub fn files_are_found()
     ensures { FilesFound }
-{
-    0
-}
+{}
 
 // Two trees with the same files are one, and joining keeps trees by rising path.
-pub fn same_files_same_tree() -> u8
+pub fn same_files_same_tree()
     ensures { OneTree }
-{
-    0
-}
+{}
 
 // Keys are ordered as paths are, and a key gives its path back.
-pub fn keys_are_ordered() -> u8
+pub fn keys_are_ordered()
     ensures { KeysOrdered }
-{
-    0
-}
+{}
 
 // A row that says that it has no files is the empty tree.
-pub fn empty_row_is_empty() -> u8
+pub fn empty_row_is_empty()
     ensures { EmptyRight }
-{
-    0
-}
+{}
 
 // What a row has at a path is what its tree has.
-pub fn rows_find_rightly() -> u8
+pub fn rows_find_rightly()
     ensures { FindsRight }
-{
-    0
-}
+{}
 
 // A file is put into a row as into its tree.
-pub fn rows_put_rightly() -> u8
+pub fn rows_put_rightly()
     ensures { PutsRight }
-{
-    0
-}
+{}
 
 // A file is taken out of a row as out of its tree.
-pub fn rows_take_rightly() -> u8
+pub fn rows_take_rightly()
     ensures { TakesRight }
-{
-    0
-}
+{}
 
 // Two rows are the same exactly if their trees are.
-pub fn same_rows_same_tree() -> u8
+pub fn same_rows_same_tree()
     ensures { SameRight }
-{
-    0
-}
+{}
 
 // A row that was stored is spread again as it was.
-pub fn stored_rows_come_back() -> u8
+pub fn stored_rows_come_back()
     ensures { StoredRight }
-{
-    0
-}
+{}
 
 // All differences of two rows are the marks of their trees.
-pub fn differences_are_marks() -> u8
+pub fn differences_are_marks()
     ensures { DiffersRight }
-{
-    0
-}
+{}

@@ -1,11 +1,13 @@
 // Trees as they are stored, out of rows and back.
-ghost use Rattle.std.specs.Prelude.{◌≡◌, ◌+◌, ◌*◌, ◌<◌, ◌≤◌, [], ◌∷◌, ◌++◌, length, take, drop, slice_index};
-ghost use Rattle.pages.specs.Lists.{zeros};
+ghost use Rattle.std.specs.Prelude.{◌≡◌, ◌+◌, ◌*◌, ◌<◌, ◌≤◌, [], ◌∷◌, ◌++◌, length, take, drop, slice_index, sum_by};
+ghost use Rattle.pages.specs.Lists.{flat};
 ghost use Rattle.pages.specs.Words.{over};
-ghost use Rattle.trees.specs.Packed.{heading, needed, packed, packed_all, spread_fits, spread_into, squeeze_answer, squeeze_into, unpacked, unpacked_all};
-ghost use Rattle.trees.specs.Row.{cut, in_words, laid};
+ghost use Rattle.trees.specs.Packed.{heading, needed, packed, spread_fits, spread_into, squeeze_answer, squeeze_into, unpacked, unpacked_all};
+ghost use Rattle.trees.specs.Row.{in_words, laid};
 
-use crate::rows::{count, space, weight};
+use crate::entries::{Entry, entries};
+use crate::rows::{space, weight};
+use std::array;
 
 // The kind of a tree among stored objects.
 pub const TREE: u64 = 2;
@@ -22,53 +24,39 @@ fn head(words: usize) -> u64
 fn path_words(size: u64) -> usize
     ensures { result ≡ needed size }
 {
-    (size.min(64) as usize + 7) / 8
+    (size.min(64) as usize).div_ceil(8)
 }
 
-// How many words n entries take when they are stored.
-fn measure(body: &[u64], n: usize) -> usize
-    requires { (10 * n ≤ length body.now) × (n ≤ 4096) }
-    ensures value { result ≡ length (packed_all (cut n body.now)) }
-    ensures bound { result ≤ 10 * n }
+// How many words entries take when they are stored.
+fn measure(entries: &[Entry]) -> usize
+    requires { length entries.now ≤ 4096 }
+    ensures { result ≡ sum_by (λ e. 2 + needed (slice_index e 8)) entries.now }
 {
-    let mut total = 0;
-    for i in 0..n {
-        total += 2 + path_words(body[10 * i + 8]);
-    }
-    total
+    entries.iter().map(|entry| 2 + path_words(entry[8])).sum()
 }
 
-// Stores the ten words of an entry at a place.
-fn pack(entry: &[u64], out: &mut [u64], at: usize)
-    requires { (length entry.now ≡ 10) × (at + (2 + needed (slice_index entry.now 8)) ≤ length out.old) }
-    ensures { out.new ≡ over at (packed entry.now) out.old }
+// Stores an entry at a place, and says where it ends.
+fn pack(entry: &Entry, out: &mut [u64], at: usize) -> usize
+    requires { at + length (packed entry.now) ≤ length out.old }
+    ensures words { out.new ≡ over at (packed entry.now) out.old }
+    ensures end { result ≡ at + length (packed entry.now) }
 {
-    let k = path_words(entry[8]);
+    let path = at + 2;
+    let end = path + path_words(entry[8]);
     out[at] = entry[9];
     out[at + 1] = entry[8];
-    out[at + 2..at + 2 + k].copy_from_slice(&entry[0..k]);
+    out[path..end].copy_from_slice(&entry[..end - path]);
+    end
 }
 
-// Stores n entries at the front.
-fn pack_all(body: &[u64], n: usize, out: &mut [u64])
-    requires { (10 * n ≤ length body.now) × ((n ≤ 4096) × (length (packed_all (cut n body.now)) ≤ length out.old)) }
-    ensures { out.new ≡ packed_all (cut n body.now) ++ drop (length (packed_all (cut n body.now))) out.old }
+// Stores entries at the front.
+fn pack_all(entries: &[Entry], out: &mut [u64])
+    requires { length (flat packed entries.now) ≤ length out.old }
+    ensures { out.new ≡ flat packed entries.now ++ drop (length (flat packed entries.now)) out.old }
 {
     let mut at = 0;
-    for i in 0..n {
-        pack(&body[10 * i..10 * i + 10], out, at);
-        at += 2 + path_words(body[10 * i + 8]);
-    }
-}
-
-// The words of a row's entries.
-fn body_of<'a>(row: &'a [u64]) -> &'a [u64]
-    ensures { result.now ≡ drop 2 row.now }
-{
-    if row.len() < 2 {
-        &row[row.len()..]
-    } else {
-        &row[2..]
+    for entry in entries {
+        at = pack(entry, out, at);
     }
 }
 
@@ -77,16 +65,15 @@ pub fn squeeze(row: &[u64], out: &mut [u64]) -> Option<usize>
     ensures answer { result ≡ squeeze_answer row.now out.old }
     ensures after { out.new ≡ squeeze_into row.now out.old }
 {
-    let n = count(row);
-    let body = body_of(row);
-    let total = 3 + measure(body, n);
+    let entries = entries(row);
+    let total = 3 + measure(entries);
     if total > out.len() {
         return None;
     }
     out[0] = head(total);
-    out[1] = n as u64;
+    out[1] = entries.len() as u64;
     out[2] = weight(row);
-    pack_all(body, n, &mut out[3..]);
+    pack_all(entries, &mut out[3..]);
     Some(total)
 }
 
@@ -94,31 +81,29 @@ pub fn squeeze(row: &[u64], out: &mut [u64]) -> Option<usize>
 fn word(words: &[u64], i: usize) -> u64
     ensures { result ≡ slice_index words.now i }
 {
-    if i < words.len() { words[i] } else { 0 }
+    words.get(i).copied().unwrap_or(0)
 }
 
-// A word of a stored path of k words; past them it is 0.
-fn path_word(stored: &[u64], at: usize, k: usize, i: usize) -> u64
-    requires { at + i < 4294967296 }
-    ensures { result ≡ slice_index (take k (drop at stored.now) ++ zeros 8) i }
+// A word of the entry that is stored at a place: of its path, which is zeros behind its own words, its length, or its reference.
+fn word_of(stored: &[u64], at: usize, i: usize) -> u64
+    requires { at < 65536 }
+    ensures { i < 10 → result ≡ slice_index (in_words (unpacked (drop at stored.now))) i }
 {
-    if i < k { word(stored, at + i) } else { 0 }
+    let size = word(stored, at + 1);
+    match i {
+        8 => size,
+        9 => word(stored, at),
+        _ if i < path_words(size) => word(stored, at + 2 + i),
+        _ => 0,
+    }
 }
 
 // The ten words of the entry that is stored at a place.
-fn unpack(stored: &[u64], at: usize) -> [u64; 10]
+fn unpack(stored: &[u64], at: usize) -> Entry
     requires { at < 65536 }
     ensures { result ≡ in_words (unpacked (drop at stored.now)) }
 {
-    let size = word(stored, at + 1);
-    let k = path_words(size);
-    let mut words = [0; 10];
-    for i in 0..8 {
-        words[i] = path_word(stored, at + 2, k, i);
-    }
-    words[8] = size;
-    words[9] = word(stored, at);
-    words
+    array::from_fn(|i| word_of(stored, at, i))
 }
 
 // Spreads n stored entries.
@@ -127,13 +112,15 @@ fn unpack_all(stored: &[u64], n: usize, body: &mut [u64])
     ensures { body.new ≡ laid (unpacked_all n (drop 3 stored.now)) body.old }
 {
     let mut at = 3;
+    // As it stands: std says of no slice what it holds after `chunks_exact_mut` or `as_chunks_mut`.
     for i in 0..n {
         body[10 * i..10 * i + 10].copy_from_slice(&unpack(stored, at));
         at += 2 + path_words(word(stored, at + 1));
     }
 }
 
-// Spreads a stored tree into a row that has room for its files.
+// Spreads a stored tree into a row that has room for its files; says whether it has.
+// As it stands: a bool, since there is one reason, and the contract states it as a test.
 pub fn spread(stored: &[u64], row: &mut [u64]) -> bool
     ensures answer { result ≡ spread_fits stored.now row.old }
     ensures after { row.new ≡ spread_into stored.now row.old }

@@ -5,11 +5,10 @@ use std::time::Instant;
 use trees::rows::{find, put};
 
 // The path of 40 bytes with a number at its end.
+// As it stands: `trees_tests` has one of 64 bytes; a crate for both would be longer than the two.
 fn numbered(i: u16) -> [u8; 40] {
     let mut bytes = [97; 40];
-    let [high, low] = i.to_be_bytes();
-    bytes[38] = high;
-    bytes[39] = low;
+    bytes[38..].copy_from_slice(&i.to_be_bytes());
     bytes
 }
 
@@ -18,24 +17,18 @@ fn scattered(i: u16) -> u16 {
     (u32::from(i) * 1237 % 4000) as u16
 }
 
-fn fill(row: &mut [u64]) -> u64 {
-    let mut done = 0u64;
-    for i in 0..4000 {
-        if put(row, &numbered(scattered(i)), u64::from(i)).is_ok() {
-            done = done.wrapping_add(1);
-        }
-    }
-    done
+// How many files were put.
+fn fill(row: &mut [u64]) -> usize {
+    (0..4000u16)
+        .filter(|i| put(row, &numbered(scattered(*i)), u64::from(*i)).is_ok())
+        .count()
 }
 
-fn look(row: &[u64]) -> u64 {
-    let mut done = 0u64;
-    for i in 0..4000 {
-        if find(row, &numbered(scattered(i))).is_some() {
-            done = done.wrapping_add(1);
-        }
-    }
-    done
+// How many files were found.
+fn look(row: &[u64]) -> usize {
+    (0..4000u16)
+        .filter(|i| find(row, &numbered(scattered(*i))).is_some())
+        .count()
 }
 
 fn main(rt: HostRuntime) -> anyhow::Result<()> {

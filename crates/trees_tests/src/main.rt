@@ -4,11 +4,12 @@
 
 use std::alloc::{AllocError, Global};
 use std::collections::BTreeMap;
+use std::fmt;
 use trees::differences::{Cursor, Place, differ};
 use trees::rows::{find, put, same, take_out, weight};
 use trees::stored::{spread, squeeze};
 
-#[derive(Clone, Copy)]
+#[derive(Clone, Copy, Default)]
 struct Tally {
     done: u64,
     wrong: u64,
@@ -23,6 +24,13 @@ impl Tally {
     }
 }
 
+impl fmt::Display for Tally {
+    fn fmt<W: fmt::Write>(&self, f: &mut fmt::Formatter<W>) -> fmt::Result {
+        let Tally { done, wrong } = self;
+        write!(f, "{done} checks, {wrong} wrong")
+    }
+}
+
 // The next of a fixed row of pseudo-random numbers.
 fn next(seed: &mut u64) -> u64 {
     *seed = seed
@@ -31,14 +39,8 @@ fn next(seed: &mut u64) -> u64 {
     *seed >> 33
 }
 
-#[derive(Clone, Copy)]
-struct Name {
-    bytes: [u8; 64],
-    size: u8,
-}
-
 // A path out of few enough that they come again: few letters, zero among them, and long ones that differ at the end only.
-fn some_name(seed: &mut u64) -> Name {
+fn some_name(heap: Global, seed: &mut u64) -> Result<Vec<u8>, AllocError> {
     let mut bytes = [0; 64];
     let kind = next(seed) % 4;
     let size = match kind {
@@ -47,13 +49,12 @@ fn some_name(seed: &mut u64) -> Name {
         2 => 64,
         _ => 7 + next(seed) % 4,
     };
-    for i in 0..64 {
+    for (i, byte) in bytes.iter_mut().enumerate() {
         if kind == 0 || kind == 3 && i >= 6 || i >= 62 {
-            bytes[i] = (next(seed) % 3 * 127) as u8;
+            *byte = (next(seed) % 3 * 127) as u8;
         }
     }
-    let size = (size % 65) as u8;
-    Name { bytes, size }
+    Vec::from_slice(heap, &bytes[..(size % 65) as usize])
 }
 
 // One random step on both; whether they agree.
@@ -63,20 +64,16 @@ fn step(
     row: &mut [u64],
     map: &mut BTreeMap<Vec<u8>, u64>,
 ) -> Result<bool, AllocError> {
-    let name = some_name(seed);
-    let n = name.size as usize;
-    if n > 64 {
-        return Ok(false);
-    }
-    let path = &name.bytes[0..n];
+    let name = some_name(heap, seed)?;
+    let path = name.as_slice();
     let agrees = match next(seed) % 5 {
         0 => find(row, path) == map.get(path).copied(),
         1 => take_out(row, path) == map.remove(path).is_some(),
         _ => {
             let reference = next(seed);
-            let key = Vec::from_slice(heap, path)?;
-            map.insert(key, reference)?;
-            put(row, path, reference).is_ok()
+            let put = put(row, path, reference);
+            map.insert(name, reference)?;
+            put.is_ok()
         }
     };
     Ok(agrees)
@@ -92,11 +89,11 @@ fn weighs(map: &BTreeMap<Vec<u8>, u64>) -> u64 {
 
 // Whether a row has just what a map has.
 fn matches(row: &[u64], map: &BTreeMap<Vec<u8>, u64>) -> bool {
-    let mut right = row.first().copied() == Some(map.len() as u64) && weight(row) == weighs(map);
-    for (key, value) in map.iter() {
-        right = right && find(row, key.as_slice()) == Some(*value);
-    }
-    right
+    row.first().copied() == Some(map.len() as u64)
+        && weight(row) == weighs(map)
+        && map
+            .iter()
+            .all(|(key, value)| find(row, key.as_slice()) == Some(*value))
 }
 
 // Whether a row, stored and spread again, is the same.
@@ -141,9 +138,7 @@ fn random(heap: Global, tally: &mut Tally) -> Result<(), AllocError> {
 // The path of 64 bytes with a number at its end.
 fn numbered(i: u16) -> [u8; 64] {
     let mut bytes = [255; 64];
-    let [high, low] = i.to_be_bytes();
-    bytes[62] = high;
-    bytes[63] = low;
+    bytes[62..].copy_from_slice(&i.to_be_bytes());
     bytes
 }
 
@@ -173,7 +168,7 @@ fn edit(row: &mut [u64]) {
     }
 }
 
-#[derive(Clone, Copy)]
+#[derive(Clone, Copy, Default)]
 struct Marks {
     new: u64,
     changed: u64,
@@ -182,12 +177,8 @@ struct Marks {
 
 // How many files are new, changed and gone.
 fn count_marks(old: &[u64], new: &[u64]) -> Marks {
-    let mut marks = Marks {
-        new: 0,
-        changed: 0,
-        gone: 0,
-    };
-    let mut from = Cursor { old: 0, new: 0 };
+    let mut marks = Marks::default();
+    let mut from = Cursor::default();
     for _ in 0..10000 {
         let Some(difference) = differ(old, new, from) else {
             break;
@@ -203,24 +194,17 @@ fn count_marks(old: &[u64], new: &[u64]) -> Marks {
 }
 
 fn main(rt: HostRuntime) -> anyhow::Result<()> {
-    let mut tally = Tally { done: 0, wrong: 0 };
+    let mut tally = Tally::default();
     random(rt.alloc(), &mut tally)?;
-    let done = tally.done;
-    let wrong = tally.wrong;
-    println!(rt; "random: {done} checks, {wrong} wrong")?;
+    println!(rt; "random: {tally}")?;
     let mut row = [0; 41024];
-    let mut tally = Tally { done: 0, wrong: 0 };
+    let mut tally = Tally::default();
     full(&mut row, &mut tally);
     tally.note(comes_back(&row));
-    let done = tally.done;
-    let wrong = tally.wrong;
-    println!(rt; "full: {done} checks, {wrong} wrong")?;
+    println!(rt; "full: {tally}")?;
     let old = row;
     edit(&mut row);
-    let found = count_marks(&old, &row);
-    let new = found.new;
-    let changed = found.changed;
-    let gone = found.gone;
+    let Marks { new, changed, gone } = count_marks(&old, &row);
     println!(rt; "differences: {new} new, {changed} changed, {gone} gone")?;
     Ok(())
 }

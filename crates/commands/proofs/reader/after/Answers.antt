@@ -1,11 +1,12 @@
-use Rattle.std.proofs.Common.{length, sym, ◌∙◌, arith}
+use Rattle.std.proofs.Common.{◌≡◌, ◌-◌, length, take, drop, sym, ◌∙◌, arith, rules}
 use Rattle.std.proofs.lemmas.List.{take_rest, drop_all}
 use Rattle.commands.proofs.reader.after.Goals as goal
 
-pub returns-then-text-lt8 : goal.returns-then-text-lt8
-returns-then-text-lt8 c =
+pub returns-in-Some : goal.returns-in-Some
+returns-in-Some c =
     let t = c.args.text.now in
-    take_rest t (length t) ∙ drop_all (length t) t (omega arith) ∙ sym (drop_all 8 t (omega arith))
+    let e : c.in-Some.rest.now ≡ take (length t - 8) (drop 8 t) = search rules in
+    e ∙ take_rest t 8
 
-pub returns-else-text-lt8 : goal.returns-else-text-lt8
-returns-else-text-lt8 c = take_rest c.args.text.now 8
+pub returns-in-None : goal.returns-in-None
+returns-in-None c = sym (drop_all 8 c.args.text.now (search rules))

@@ -6,18 +6,18 @@ use Rattle.commands.specs.Parse.{of_bytes, parsed}
 use Rattle.commands.proofs.ParseLaws.{parsed_bytes, answered_by}
 use Rattle.commands.proofs.reader.parse.Goals as goal
 
-pub returns-in-Some : goal.returns-in-Some
+pub returns : goal.returns
 unfolding of_bytes
-returns-in-Some c =
+returns c =
     let text = c.args.text.now in
     let is : meaning c.read.result ≡ parsed text =
-    c.read.ensures ∙ ap of_bytes (sym c.in-Some.ensures.cases.0) ∙ sym (parsed_bytes text (all_bytes_by text c.type_inv.text)) in
+    c.read.ensures ∙ ap of_bytes (sym c.in_ok-kind.ensures.cases.0) ∙ sym (parsed_bytes text (all_bytes_by text c.type_inv.text)) in
     record { is = is; answers = answered_by text (meaning c.read.result) is }
 
-pub returns-in-None : goal.returns-in-None
+pub returns-in_err-kind : goal.returns-in_err-kind
 unfolding of_bytes
-returns-in-None c =
+returns-in_err-kind c =
     let text = c.args.text.now in
     let is : ◌≡◌ {A = _} None (parsed text) =
-    ap of_bytes (sym (nil_from_length text c.in-None.ensures.cases)) ∙ sym (parsed_bytes text (all_bytes_by text c.type_inv.text)) in
-    record { is = is; answers = answered_by text None is }
+    ap of_bytes (sym (nil_from_length text c.in_err-kind.ensures.cases)) ∙ sym (parsed_bytes text (all_bytes_by text c.type_inv.text)) in
+    rw c.from_residual.ensures (record { is = is; answers = answered_by text None is })

@@ -1,23 +1,33 @@
-use Rattle.std.proofs.Common.{◌≡◌, ◌+◌, ◌-◌, ◌*◌, take, drop, sym, ap, ◌∙◌, arith}
+use Rattle.std.proofs.Common.{◌≡◌, ◌+◌, ◌<◌, ◌≤◌, List, ℕ, [], length, get_or, drop, sym, ap, ◌∙◌, ap₂, rules, Decides}
 use Rattle.std.proofs.lemmas.Slice.Eq.{slice_eq-Decides}
-use Rattle.trees.specs.Row.{entries_of}
+use Rattle.pages.specs.Lists.{each}
+use Rattle.trees.specs.Row.{as_entry}
 use Rattle.trees.specs.Differ.{meets}
-use Rattle.trees.proofs.DifferLaws.{entry_past, meets_none, meets_words}
-use Rattle.trees.proofs.differences.alike.Goals as goal
+use Rattle.trees.proofs.DifferLaws.{file_at, file_past, meets_none, meets_words}
 use Rattle.std.proofs.lemmas.Bool.Decides.{Decides-eqb}
+use Rattle.trees.proofs.differences.alike.Goals as goal
 
-pub returns-then-i-count : goal.returns-then-i-count
-returns-then-i-count c = sym (ap (λ u. meets u (drop c.args.j (entries_of c.args.new.now))) (entry_past c.args.old.now c.args.i (omega arith)))
+pub returns-in-Some-Some : goal.returns-in-Some-Some
+returns-in-Some-Some c =
+    let old = c.args.old.now in let new = c.args.new.now in let i = c.args.i in let j = c.args.j in
+    let h : i < length old = search rules in
+    let k : j < length new = search rules in
+    let a : List ℕ = get_or old i [] in let b : List ℕ = get_or new j [] in
+    let ea : c.in-Some-Some.old.now ≡ a = search rules in
+    let eb : c.in-Some-Some.new.now ≡ b = search rules in
+    let la : length a ≡ 10 = search rules in
+    let lb : length b ≡ 10 = search rules in
+    let d : Decides c.eq.result (a ≡ b) = rw (ea, eb) at (slice_eq-Decides Decides-eqb c.in-Some-Some.old.now c.in-Some-Some.new.now _ c.eq.ensures) in
+    meets_words a b (drop (i + 1) (each as_entry old)) (drop (j + 1) (each as_entry new)) c.eq.result la lb d ∙ sym (ap₂ (λ s t. meets s t) (file_at old i h) (file_at new j k))
 
-pub returns-then-j-count : goal.returns-then-j-count
-returns-then-j-count c =
-    let ts = drop c.args.i (entries_of c.args.old.now) in sym (ap (meets ts) (entry_past c.args.new.now c.args.j (omega arith)) ∙ meets_none ts)
+pub returns-in_default : goal.returns-in_default
+returns-in_default c =
+    let new = c.args.new.now in let ts = drop c.args.i (each as_entry c.args.old.now) in
+    let k : length new ≤ c.args.j = search rules in
+    sym (ap (meets ts) (file_past new c.args.j k) ∙ meets_none ts)
 
-pub returns : goal.returns
-returns c =
-    let i = c.args.i in let j = c.args.j in
-    let x : 10 * i + 12 - (10 * i + 2) ≡ 10 = omega arith in
-    let y : 10 * j + 12 - (10 * j + 2) ≡ 10 = omega arith in
-    let u = drop (10 * i + 2) c.args.old.now in let v = drop (10 * j + 2) c.args.new.now in
-    let d = slice_eq-Decides Decides-eqb (take (10 * i + 12 - (10 * i + 2)) u) (take (10 * j + 12 - (10 * j + 2)) v) _ c.eq.ensures in
-    meets_words c.args.old.now c.args.new.now i j c.eq.result (omega arith) (omega arith) (omega arith) (omega arith) (rw (x, y) at d)
+pub returns-in_default-2 : goal.returns-in_default-2
+returns-in_default-2 c =
+    let old = c.args.old.now in
+    let h : length old ≤ c.args.i = search rules in
+    sym (ap (λ u. meets u (drop c.args.j (each as_entry c.args.new.now))) (file_past old c.args.i h))

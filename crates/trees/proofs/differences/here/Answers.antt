@@ -1,37 +1,54 @@
-use Rattle.std.proofs.Common.{◌≡◌, ◌+◌, ◌-◌, ◌*◌, sym, ◌∙◌, ap₂, arith}
+use Rattle.std.proofs.Common.{◌≡◌, ◌+◌, ◌<◌, ◌≤◌, [], length, get_or, drop, sym, ◌∙◌, ap₂, rules}
+use Rattle.pages.specs.Lists.{each}
+use Rattle.trees.specs.Row.{as_entry}
 use Rattle.trees.specs.Differ.{difference_here}
-use Rattle.trees.proofs.DifferLaws.{entry_at, entry_past, here_ordered}
+use Rattle.trees.proofs.DifferLaws.{file_at, file_past, here_ordered}
 use Rattle.trees.proofs.differences.here.Goals as goal
 
-pub returns-then-j-count : goal.returns-then-j-count
-returns-then-j-count c =
-    sym (ap₂ (λ s t. difference_here s t c.args.i c.args.j) (entry_past c.args.old.now c.args.i (omega arith)) (entry_past c.args.new.now c.args.j (omega arith)))
+pub returns-in-None-None : goal.returns-in-None-None
+returns-in-None-None c =
+    let old = c.args.old.now in let new = c.args.new.now in
+    let h : length old ≤ c.args.i = search rules in
+    let k : length new ≤ c.args.j = search rules in
+    sym (ap₂ (λ s t. difference_here s t c.args.i c.args.j) (file_past old c.args.i h) (file_past new c.args.j k))
 
-pub returns-then-i-count : goal.returns-then-i-count
-returns-then-i-count c =
-    c.differs.ensures ∙ sym (ap₂ (λ s t. difference_here s t c.args.i c.args.j) (entry_past c.args.old.now c.args.i (omega arith)) (entry_at c.args.new.now c.args.j (omega arith)))
+pub returns-in-None-Some : goal.returns-in-None-Some
+returns-in-None-Some c =
+    let old = c.args.old.now in let new = c.args.new.now in
+    let h : length old ≤ c.args.i = search rules in
+    let k : c.args.j < length new = search rules in
+    c.differs.ensures ∙ sym (ap₂ (λ s t. difference_here s t c.args.i c.args.j) (file_past old c.args.i h) (file_at new c.args.j k))
 
-pub returns-then-j-count-2 : goal.returns-then-j-count-2
-returns-then-j-count-2 c =
-    c.differs-then-j-count-2.ensures ∙ sym (ap₂ (λ s t. difference_here s t c.args.i c.args.j) (entry_at c.args.old.now c.args.i (omega arith)) (entry_past c.args.new.now c.args.j (omega arith)))
+pub returns-in-Some-None : goal.returns-in-Some-None
+returns-in-Some-None c =
+    let old = c.args.old.now in let new = c.args.new.now in
+    let h : c.args.i < length old = search rules in
+    let k : length new ≤ c.args.j = search rules in
+    c.differs-in-Some-None.ensures ∙ sym (ap₂ (λ s t. difference_here s t c.args.i c.args.j) (file_at old c.args.i h) (file_past new c.args.j k))
 
-pub returns-in-Same : goal.returns-in-Same
-returns-in-Same c =
-    let i = c.args.i in let j = c.args.j in
-    let x : 10 * i + 11 - (10 * i + 2) ≡ 9 = omega arith in
-    let y : 10 * j + 11 - (10 * j + 2) ≡ 9 = omega arith in
-    c.differs-in-Same.ensures ∙ here_ordered c.args.old.now c.args.new.now i j (10 * i + 11 - (10 * i + 2)) (10 * j + 11 - (10 * j + 2)) _ (omega arith) (omega arith) x y c.in-Same.ensures
+pub returns-in-Equal : goal.returns-in-Equal
+returns-in-Equal c =
+    let old = c.args.old.now in let new = c.args.new.now in let i = c.args.i in let j = c.args.j in
+    let h : i < length old = search rules in
+    let k : j < length new = search rules in
+    let ea : c.in-Some-Some.old.now ≡ get_or old i [] = search rules in
+    let eb : c.in-Some-Some.new.now ≡ get_or new j [] = search rules in
+    c.differs-in-Equal.ensures ∙ here_ordered (get_or old i []) (get_or new j []) (drop (i + 1) (each as_entry old)) (drop (j + 1) (each as_entry new)) i j _ (rw (ea, eb) at c.in-Equal.ensures) ∙ sym (ap₂ (λ s t. difference_here s t i j) (file_at old i h) (file_at new j k))
 
-pub returns-in-Earlier : goal.returns-in-Earlier
-returns-in-Earlier c =
-    let i = c.args.i in let j = c.args.j in
-    let x : 10 * i + 11 - (10 * i + 2) ≡ 9 = omega arith in
-    let y : 10 * j + 11 - (10 * j + 2) ≡ 9 = omega arith in
-    c.differs-in-Earlier.ensures ∙ here_ordered c.args.old.now c.args.new.now i j (10 * i + 11 - (10 * i + 2)) (10 * j + 11 - (10 * j + 2)) _ (omega arith) (omega arith) x y c.in-Earlier.ensures
+pub returns-in-Less : goal.returns-in-Less
+returns-in-Less c =
+    let old = c.args.old.now in let new = c.args.new.now in let i = c.args.i in let j = c.args.j in
+    let h : i < length old = search rules in
+    let k : j < length new = search rules in
+    let ea : c.in-Some-Some.old.now ≡ get_or old i [] = search rules in
+    let eb : c.in-Some-Some.new.now ≡ get_or new j [] = search rules in
+    c.differs-in-Less.ensures ∙ here_ordered (get_or old i []) (get_or new j []) (drop (i + 1) (each as_entry old)) (drop (j + 1) (each as_entry new)) i j _ (rw (ea, eb) at c.in-Less.ensures) ∙ sym (ap₂ (λ s t. difference_here s t i j) (file_at old i h) (file_at new j k))
 
-pub returns-in-Later : goal.returns-in-Later
-returns-in-Later c =
-    let i = c.args.i in let j = c.args.j in
-    let x : 10 * i + 11 - (10 * i + 2) ≡ 9 = omega arith in
-    let y : 10 * j + 11 - (10 * j + 2) ≡ 9 = omega arith in
-    c.differs-in-Later.ensures ∙ here_ordered c.args.old.now c.args.new.now i j (10 * i + 11 - (10 * i + 2)) (10 * j + 11 - (10 * j + 2)) _ (omega arith) (omega arith) x y c.in-Later.ensures
+pub returns-in-Greater : goal.returns-in-Greater
+returns-in-Greater c =
+    let old = c.args.old.now in let new = c.args.new.now in let i = c.args.i in let j = c.args.j in
+    let h : i < length old = search rules in
+    let k : j < length new = search rules in
+    let ea : c.in-Some-Some.old.now ≡ get_or old i [] = search rules in
+    let eb : c.in-Some-Some.new.now ≡ get_or new j [] = search rules in
+    c.differs-in-Greater.ensures ∙ here_ordered (get_or old i []) (get_or new j []) (drop (i + 1) (each as_entry old)) (drop (j + 1) (each as_entry new)) i j _ (rw (ea, eb) at c.in-Greater.ensures) ∙ sym (ap₂ (λ s t. difference_here s t i j) (file_at old i h) (file_at new j k))

@@ -1,33 +1,13 @@
-use Rattle.std.proofs.Common.{◌≡◌, ℕ, ◌+◌, ◌-◌, ◌*◌, ◌<◌, List, [], ◌∷◌, ◌++◌, length, take, drop, set, sym, refl, ap, ◌∙◌, arith, length-set}
-use Rattle.std.proofs.lemmas.List.{take_more_set, take_all, take-take}
-use Rattle.pages.specs.Bytes.{from_bytes}
+use Rattle.std.proofs.Common.{◌≡◌, ℕ, ◌<◌, List, [], ◌∷◌, ◌++◌, length, get_or, ◌∙◌, arith, rules, length-append}
+use Rattle.std.proofs.lemmas.List.{same_lists, get_or_default}
 use Rattle.pages.specs.Words.{words}
-use Rattle.pages.proofs.WordLaws.{words_more}
+use Rattle.pages.proofs.WordLaws.{length_words}
 use Rattle.trees.proofs.keys.packed.Goals as goal
 
-pub loop-i-init : goal.loop-i-init
-unfolding words
-loop-i-init c = (refl, refl)
-
-pub loop-i-preserved : goal.loop-i-preserved
-loop-i-preserved c =
-    let i = c.loop-i.i in
-    let p = c.args.bytes.now in
-    let k : 8 * i + 8 - 8 * i ≡ 8 = omega arith in
-    let h : i < length c.loop-i.key = omega arith in (
-      length-set c.loop-i.key i c.number.result ∙ c.loop-i.invariant.0,
-      take_more_set c.loop-i.key i c.number.result h
-          ∙ ap (λ xs. xs ++ c.number.result ∷ []) c.loop-i.invariant.1
-          ∙ ap (λ x. words i p ++ x ∷ [])
-          (c.number.ensures ∙ ap (λ n. from_bytes 0 (take 8 (take n (drop (8 * i) p)))) k ∙ ap (from_bytes 0) (take-take 8 8 (drop (8 * i) p) (omega arith)))
-          ∙ sym (words_more i p),
-    )
-
--- the last word behind eight others
-ninth : (k p : List ℕ) (i s : ℕ) → i ≡ 8 → length k ≡ 9 → take i k ≡ words i p → set k 8 s ≡ words 8 p ++ s ∷ []
-ninth k p i s e l h =
-    sym (take_all 9 (set k 8 s) (omega (arith, length-set k 8 s))) ∙ take_more_set k 8 s (omega arith)
-    ∙ ap (λ xs. xs ++ s ∷ []) (sym (ap (λ n. take n k) e) ∙ h ∙ ap (λ n. words n p) e)
-
 pub returns : goal.returns
-returns c = ninth c.loop-i.key c.args.bytes.now c.loop-i.i c.args.size (omega arith) c.loop-i.invariant.0 c.loop-i.invariant.1
+returns c =
+    let ws : List ℕ = words 8 c.args.bytes.now ++ c.args.size ∷ [] in
+    let nine : length c.from_fn.result ≡ length ws = omega (arith, c.from_fn.ensures.items.long, length-append (words 8 c.args.bytes.now) (c.args.size ∷ []), length_words 8 c.args.bytes.now) in
+    let at : (i : ℕ) → i < 9 → get_or c.from_fn.result i 0 ≡ get_or ws i 0 = λ i h. let p = c.from_fn.ensures.items.at i 0 h in search rules in
+    same_lists _ ws nine
+    (λ i d h. get_or_default c.from_fn.result i d 0 h ∙ at i (omega (arith, c.from_fn.ensures.items.long)) ∙ get_or_default ws i 0 d (omega (arith, nine)))

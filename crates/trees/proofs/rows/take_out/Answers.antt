@@ -9,7 +9,7 @@ pub returns-in-Some : goal.returns-in-Some
 unfolding take_from taken_from
 returns-in-Some c =
     let p = c.args.path.now in let ws = c.args.row.now in
-    let k = key_some (good_path p) c.in-Some.words (key_of p) c.in-Some.ensures in
+    let k = key_some (good_path p) c.in-Some.key (key_of p) c.in-Some.ensures in
     record {
       answer = c.take_key.ensures.answer ∙ ap₂ (λ b x. b && has_key x ws) (sym k.0) k.1;
       after = c.take_key.ensures.after ∙ ap (λ x. take_key x (64 + length p) ws) k.1 ∙ sym (pick_true (good_path p) (take_key (key_of p) (64 + length p) ws) ws k.0);

@@ -1,8 +1,8 @@
-use Rattle.std.proofs.Common.{◌≡◌, ◌*◌, ◌≤◌, ◌++◌, length, drop}
-use Rattle.trees.specs.Row.{cut}
-use Rattle.trees.specs.Packed.{packed_all}
+use Rattle.std.proofs.Common.{◌≡◌, ◌++◌, length, take, drop}
+use Rattle.pages.specs.Lists.{flat}
+use Rattle.trees.specs.Packed.{packed}
 use Rattle.trees.proofs.stored.pack_all.Given as goal
 
-abbrev pub invariant-loop-i : goal.invariant-loop-i
-invariant-loop-i l =
-    (l.at ≡ length (packed_all (cut l.i l.body))) × (l.at ≤ 10 * l.i) × (l.out ≡ packed_all (cut l.i l.body) ++ drop l.at l.initial.out)
+abbrev pub invariant-loop-entry : goal.invariant-loop-entry
+invariant-loop-entry l =
+    (l.at ≡ length (flat packed (take l.entry-index l.entries))) × (l.out ≡ flat packed (take l.entry-index l.entries) ++ drop l.at l.initial.out)

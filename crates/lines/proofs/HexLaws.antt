@@ -1,0 +1,59 @@
+-- Bytes in hexadecimal, and back.
+use Rattle.std.proofs.Common.{◌≡◌, ℕ, ◌+◌, ◌-◌, ◌*◌, ◌/◌, ◌%◌, ◌<◌, ◌≤◌, Bool, true, ◌&&◌, ltb, List, [], ◌∷◌, ◌++◌, length, get_or, take, drop, Some, None, Option, sym, refl, ap, ◌∙◌, append_assoc, arith}
+use Rattle.std.proofs.lemmas.List.{take_more, take_all}
+use Rattle.std.proofs.lemmas.Bool.Decides.{nat_tests}
+use Rattle.pages.specs.Bytes.{all_bytes}
+use Rattle.lines.specs.Hex.{ReadBack, before, byte_read, bytes_read, digit, digit_read, digits}
+
+pub digits-++ : (xs ys : List ℕ) → digits (xs ++ ys) ≡ digits xs ++ digits ys
+digits-++ [] ys = refl
+digits-++ (x ∷ xs) ys = ap (λ r. digit (x / 16) ∷ digit (x % 16) ∷ r) (digits-++ xs ys)
+
+pub digit_back : (n : ℕ) → n < 16 → digit_read (digit n) ≡ Some n
+digit_back n h = grind (arith, nat_tests)
+
+pub byte_back : (b : ℕ) → b < 256 → byte_read (digit (b / 16)) (digit (b % 16)) ≡ Some b
+byte_back b h =
+    let high : b / 16 < 16 = omega arith in
+    let low : b % 16 < 16 = omega arith in
+    let whole : 16 * (b / 16) + b % 16 ≡ b = omega arith in
+    rw (digit_back (b / 16) high, digit_back (b % 16) low) (ap Some whole)
+
+-- what was read, in front of what is still to be read
+abbrev pub behind : List ℕ → Option (List ℕ) → Option (List ℕ)
+behind xs (Some ys) = Some (xs ++ ys)
+behind xs None = None
+
+pub behind_more : (xs : List ℕ) (b : ℕ) (o : Option (List ℕ)) → behind xs (before (Some b) o) ≡ behind (xs ++ b ∷ []) o
+behind_more xs b (Some ys) = ap Some (simp append_assoc)
+behind_more xs b None = refl
+
+pub and_right : (a b : Bool) → a && b ≡ true → b ≡ true
+and_right a b h = grind arith
+
+pub read_back : ReadBack
+unfolding all_bytes
+read_back [] h = refl
+read_back (b ∷ bs) h =
+    let small : b < 256 = grind (arith, nat_tests) in
+    let rest : bytes_read (digits bs) ≡ Some bs = read_back bs (and_right (ltb b 256) (all_bytes bs) h) in
+    rw (byte_back b small, rest)
+
+-- one byte more, in digits
+pub digits_more : (bytes : List ℕ) (i : ℕ) (old items items' items'' : List ℕ) → i < length bytes → items ≡ old ++ digits (take i bytes)
+    → items' ≡ items ++ digit (get_or bytes i 0 / 16) ∷ [] → items'' ≡ items' ++ digit (get_or bytes i 0 % 16) ∷ [] → items'' ≡ old ++ digits (take (i + 1) bytes)
+digits_more bytes i old items items' items'' h e f g =
+    rw (g, f, e, take_more bytes i 0 h, digits-++ (take i bytes) (get_or bytes i 0 ∷ [])) (simp append_assoc)
+
+pub front_two : (xs : List ℕ) → 2 ≤ length xs → xs ≡ get_or xs 0 0 ∷ get_or xs 1 0 ∷ take (length xs - 2) (drop 2 xs)
+front_two [] h = let z : ⊥ = omega arith in elim z [ ]
+front_two (x ∷ []) h = let z : ⊥ = omega arith in elim z [ ]
+front_two (x ∷ y ∷ zs) h =
+    let l : length zs ≤ length (x ∷ y ∷ zs) - 2 = omega arith in ap (λ r. x ∷ y ∷ r) (sym (take_all (length (x ∷ y ∷ zs) - 2) zs l))
+
+-- one byte more is read
+pub read_more : (text rest after items items' : List ℕ) (high low b : ℕ) → bytes_read text ≡ behind items (bytes_read rest) → rest ≡ high ∷ low ∷ after
+    → Some b ≡ byte_read high low → items' ≡ items ++ b ∷ [] → bytes_read text ≡ behind items' (bytes_read after)
+read_more text rest after items items' high low b inv e r g =
+    inv ∙ ap (λ t. behind items (bytes_read t)) e ∙ ap (λ o. behind items (before o (bytes_read after))) (sym r) ∙ behind_more items b (bytes_read after)
+    ∙ ap (λ t. behind t (bytes_read after)) (sym g)
