@@ -1,8 +1,8 @@
 // A house, driven act by act over its file.
-use crate::hex;
 use crate::page_file::{PAGE, PageFile};
 use crate::trouble::{Trouble, system};
 use house::step;
+use lines::hex;
 use pages::bytes::in_eight;
 use pages::told::Told;
 use std::alloc::Global;
@@ -123,7 +123,7 @@ impl Driver {
 // Prints a row in hexadecimal, on a line of its own.
 pub fn print_row(rt: &HostRuntime, row: &[u8]) -> Result<(), Trouble> {
     let line = hex::line_of(rt.alloc(), row)?;
-    system("print", rt.stdout().write_all(line.as_slice()))
+    system("print", rt.stdout().write_all(line.as_bytes()))
 }
 
 // A refusal has a number from 1 to 999.

@@ -1,10 +1,9 @@
 // A line of text as a command.
 ghost use Rattle.std.specs.Prelude.{◌<◌, IfOk};
 
-use crate::escape::unescaped;
-use crate::hex;
 use crate::unread::Unread;
 use commands::{Command, spell};
+use lines::{escape, hex};
 use std::alloc::Global;
 
 #[derive(Clone, Copy)]
@@ -144,6 +143,11 @@ fn house_of(word: &str) -> Result<u8, Unread<'_>>
     } else {
         Err(Unread::NoHouse(number))
     }
+}
+
+// The bytes that a text with escapes stands for.
+fn unescaped<'a>(heap: Global, text: &'a str) -> Result<Vec<u8>, Unread<'a>> {
+    escape::unescaped(heap, text.as_bytes())?.ok_or(Unread::Escape(text))
 }
 
 // The bytes, if they are no more than there may be.

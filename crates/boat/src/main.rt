@@ -2,8 +2,6 @@
 #![tactic(auto)]
 
 mod driver;
-mod escape;
-mod hex;
 mod line;
 mod page_file;
 mod trouble;

@@ -3,7 +3,7 @@ use Rattle.std.proofs.Common.{◌≡◌, ℕ, ◌+◌, ◌-◌, ◌*◌, ◌/◌
 use Rattle.std.proofs.lemmas.List.{take_more, take_all}
 use Rattle.std.proofs.lemmas.Bool.Decides.{nat_tests}
 use Rattle.pages.specs.Bytes.{all_bytes}
-use Rattle.boat.specs.Hex.{ReadBack, before, byte_read, bytes_read, digit, digit_read, digits}
+use Rattle.lines.specs.Hex.{ReadBack, before, byte_read, bytes_read, digit, digit_read, digits}
 
 pub digits-++ : (xs ys : List ℕ) → digits (xs ++ ys) ≡ digits xs ++ digits ys
 digits-++ [] ys = refl
@@ -40,14 +40,10 @@ read_back (b ∷ bs) h =
     rw (byte_back b small, rest)
 
 -- one byte more, in digits
-pub digits_more : (bytes : List ℕ) (i : ℕ) (items row items' : List ℕ) → i < length bytes → items ≡ digits (take i bytes)
-    → row ≡ digit (get_or bytes i 0 / 16) ∷ digit (get_or bytes i 0 % 16) ∷ [] → items' ≡ items ++ row → items' ≡ digits (take (i + 1) bytes)
-digits_more bytes i items row items' h e f g =
-    rw (g, e, f, take_more bytes i 0 h, digits-++ (take i bytes) (get_or bytes i 0 ∷ []))
-
-pub digits_all : (bytes : List ℕ) (i : ℕ) (items items' : List ℕ) → length bytes ≤ i → items ≡ digits (take i bytes) → items' ≡ items ++ 10 ∷ []
-    → items' ≡ digits bytes ++ 10 ∷ []
-digits_all bytes i items items' h e g = rw (g, e, take_all i bytes h)
+pub digits_more : (bytes : List ℕ) (i : ℕ) (old items items' items'' : List ℕ) → i < length bytes → items ≡ old ++ digits (take i bytes)
+    → items' ≡ items ++ digit (get_or bytes i 0 / 16) ∷ [] → items'' ≡ items' ++ digit (get_or bytes i 0 % 16) ∷ [] → items'' ≡ old ++ digits (take (i + 1) bytes)
+digits_more bytes i old items items' items'' h e f g =
+    rw (g, f, e, take_more bytes i 0 h, digits-++ (take i bytes) (get_or bytes i 0 ∷ [])) (simp append_assoc)
 
 pub front_two : (xs : List ℕ) → 2 ≤ length xs → xs ≡ get_or xs 0 0 ∷ get_or xs 1 0 ∷ take (length xs - 2) (drop 2 xs)
 front_two [] h = let z : ⊥ = omega arith in elim z [ ]

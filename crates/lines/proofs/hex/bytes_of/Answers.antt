@@ -1,6 +1,6 @@
 use Rattle.std.proofs.Common.{◌-◌, ◌≤◌, length, take, drop, arith}
-use Rattle.boat.proofs.HexLaws.{front_two, read_more}
-use Rattle.boat.proofs.hex.bytes_of.Goals as goal
+use Rattle.lines.proofs.HexLaws.{front_two, read_more}
+use Rattle.lines.proofs.hex.bytes_of.Goals as goal
 
 pub loop-rest-preserved : goal.loop-rest-preserved
 loop-rest-preserved c =
