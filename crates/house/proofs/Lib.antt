@@ -6,3 +6,4 @@ pub mod MorningLaws
 pub mod Simulation
 pub mod OnTape
 pub mod Nothing
+pub mod Started

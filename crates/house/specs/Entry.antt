@@ -25,7 +25,16 @@ event_of k bs =
     pick (k == 0) (on (from_bytes 0 (take 8 bs)) (from_bytes 0 (take 8 (drop 8 bs))) (from_bytes 0 (take 8 (drop 16 bs))))
     (pick (k == 1) (said bs) (pick (k == 2) (page bs) (pick (k == 3) next (pick (k == 4) (heard bs) lost))))
 
--- one step: for memories of the house's own length and a lent row of 131,072 bytes; for others number 0 is told and nothing is changed
+-- one step, told as an event: for memories of the house's own length and a lent row of 131,072 bytes; for others number 0 is told and nothing is changed
+unfoldable pub TellSays : (memory : List ℕ) → Event → (out : List ℕ) → Bool → Told → (memory₁ out₁ : List ℕ) → Type 0
+TellSays memory ev out true r memory₁ out₁ =
+    (memory₁ ≡ ((own own_sum).step memory ev).memory) × ActTold ((own own_sum).step memory ev).act r out out₁
+TellSays memory ev out false r memory₁ out₁ = (r ≡ No 0) × (memory₁ ≡ memory) × (out₁ ≡ out)
+
+unfoldable pub tell_fits : (memory out : List ℕ) → Bool
+tell_fits memory out = length memory == length (own own_sum).start && nat_le 131072 (length out)
+
+-- one step, told as a kind and some bytes: of kinds above 5 number 0 is told and nothing is changed
 unfoldable pub StepSays : (memory : List ℕ) (kind : ℕ) (bytes out : List ℕ) → Bool → Told → (memory₁ out₁ : List ℕ) → Type 0
 StepSays memory kind bytes out true r memory₁ out₁ =
     (memory₁ ≡ ((own own_sum).step memory (event_of kind bytes)).memory) × ActTold ((own own_sum).step memory (event_of kind bytes)).act r out out₁

@@ -1,7 +1,7 @@
 // The plain houses, the house that runs, and what they promise.
 #![tactic(auto)]
 
-ghost use Rattle.house.specs.Entry.{event_of, StepSays, step_fits};
+ghost use Rattle.house.specs.Entry.{event_of, StepSays, step_fits, tell_fits, TellSays};
 ghost use Rattle.pages.specs.Bytes.{from_bytes};
 ghost use Rattle.pages.specs.Told.{event_meant};
 ghost use Rattle.std.specs.Prelude.{◌≡◌, ◌<◌, ◌≤◌, take, drop, MatchOption};
@@ -43,11 +43,18 @@ fn event_of<'a>(kind: u64, bytes: &'a [u8]) -> Option<Event<'a>>
 
 // One step of the house: what the world tells is taken in, and one act is told. Memory has 262,144 numbers, all 0 when power comes; the lent row has
 // 131,072 bytes or more.
+pub fn tell(memory: &mut [u64], event: Event, out: &mut [u8]) -> Told
+    ensures { TellSays memory.old (event_meant event.entry) out.old (tell_fits memory.old out.old) result memory.new out.new }
+{
+    pages::cells::step::<Registers>(memory, event, out)
+}
+
+// The same step for a world that tells numbers: a kind, and some bytes.
 pub fn step(memory: &mut [u64], kind: u64, bytes: &[u8], out: &mut [u8]) -> Told
     ensures { StepSays memory.old kind bytes.now out.old (step_fits memory.old kind bytes.now out.old) result memory.new out.new }
 {
     let Some(event) = event_of(kind, bytes) else {
         return Told::No(0);
     };
-    pages::cells::step::<Registers>(memory, event, out)
+    tell(memory, event, out)
 }

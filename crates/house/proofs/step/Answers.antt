@@ -1,28 +1,20 @@
-use Rattle.std.proofs.Common.{◌≡◌, ℕ, ◌≤◌, Bool, true, false, ◌&&◌, eqb, leb, List, length, sym, refl, subst, ap₂}
+use Rattle.std.proofs.Common.{◌≡◌, ℕ, ◌≤◌, Bool, true, false, ◌&&◌, eqb, leb, List, length, sym, refl, subst, ap}
 use Rattle.std.proofs.lemmas.Bool.{le-leb, lt-leb, and_left, and_right}
 use Rattle.pages.specs.Run.{Event}
 use Rattle.pages.specs.Told.{event_meant}
-use Rattle.pages.specs.Engine.{engine, engine_fits, StepTold}
 use Rattle.pages.specs.declared.told.Told.{Told}
 use Rattle.pages.specs.declared.told.Told.TheVariants.{No}
-use Rattle.pages.proofs.WordLaws.{length_zeros}
-use Rattle.house.specs.Client.{house_client}
-use Rattle.house.specs.Entry.{own, own_sum, event_of, StepSays, step_fits}
+use Rattle.house.specs.Entry.{own, own_sum, event_of, StepSays, step_fits, tell_fits, TellSays}
 use Rattle.house.proofs.step.Goals as goal
 
--- memory has the length that it starts with
-start_length : length (own own_sum).start ≡ 262144
-unfolding own engine
-start_length = length_zeros 262144
-
-fits_is : (m : List ℕ) (kind : ℕ) (bytes out : List ℕ) → kind ≤ 5 → step_fits m kind bytes out ≡ engine_fits m out
-unfolding step_fits
-fits_is m kind bytes out h = ap₂ (λ n b. eqb (length m) n && (b && leb 131072 (length out))) start_length (le-leb kind 5 h)
+fits_is : (m : List ℕ) (kind : ℕ) (bytes out : List ℕ) → kind ≤ 5 → step_fits m kind bytes out ≡ tell_fits m out
+unfolding step_fits tell_fits
+fits_is m kind bytes out h = ap (λ b. eqb (length m) (length (own own_sum).start) && (b && leb 131072 (length out))) (le-leb kind 5 h)
 
 says : (m : List ℕ) (kind : ℕ) (bytes out : List ℕ) (ev : Event) (r : Told) (m₁ out₁ : List ℕ) → ev ≡ event_of kind bytes → (b : Bool) →
-    StepTold b house_client m ev out r m₁ out₁ → StepSays m kind bytes out b r m₁ out₁
-unfolding StepSays own
-says m kind bytes out ev r m₁ out₁ e true x = subst (λ v. StepTold true house_client m v out r m₁ out₁) e x
+    TellSays m ev out b r m₁ out₁ → StepSays m kind bytes out b r m₁ out₁
+unfolding StepSays TellSays
+says m kind bytes out ev r m₁ out₁ e true x = subst (λ v. TellSays m v out true r m₁ out₁) e x
 says m kind bytes out ev r m₁ out₁ e false x = x
 
 pub returns-in_default : goal.returns-in_default
@@ -40,7 +32,7 @@ returns c =
     let out : List ℕ = c.args.out.now in
     let bytes : List ℕ = c.args.bytes.now in
     let known = c.in-Some.ensures in
-    subst (λ b. StepSays m c.args.kind bytes out b c.step.result c.step.new.memory c.step.new.out)
+    subst (λ b. StepSays m c.args.kind bytes out b c.tell.result c.tell.new.memory c.tell.new.out)
     (sym (fits_is m c.args.kind bytes out known.0))
-    (says m c.args.kind bytes out (event_meant c.in-Some.event) c.step.result c.step.new.memory c.step.new.out known.1 (engine_fits m out)
-    c.step.ensures)
+    (says m c.args.kind bytes out (event_meant c.in-Some.event) c.tell.result c.tell.new.memory c.tell.new.out known.1 (tell_fits m out)
+    c.tell.ensures)
