@@ -4,7 +4,7 @@ ghost use Rattle.std.specs.Prelude.{◌<◌};
 use crate::day::{Item, LONG_LINE, Stop, What};
 use crate::device::Left;
 use crate::engine::KNOWN;
-use crate::text::{fetch, history, leave, spelled, status, sweep};
+use crate::text::spelled;
 use commands::Command;
 use plain::houses::Plain;
 use std::alloc::{AllocError, Global};
@@ -118,10 +118,10 @@ fn small(heap: Global, dice: &mut Dice, k: u64) -> Result<Option<Vec<u8>>, Alloc
         15 => spelled(heap, Command::Forget(name(dice))),
         16 => spelled(heap, Command::Tag(name(dice))),
         17 => spelled(heap, Command::Who(path(dice))),
-        6 => spelled(heap, history()),
-        8 => spelled(heap, status()),
-        12 => spelled(heap, leave()),
-        18 => spelled(heap, sweep()),
+        6 => spelled(heap, Command::History),
+        8 => spelled(heap, Command::Status),
+        12 => spelled(heap, Command::Leave),
+        18 => spelled(heap, Command::Sweep),
         _ => Ok(None),
     }
 }
@@ -151,7 +151,7 @@ fn command(heap: Global, dice: &mut Dice, plain: &Plain, k: u64) -> Result<Vec<u
             Command::MoveOnto(far_name(heap, dice, houses)?.as_slice()),
         )?,
         14 => spelled(heap, Command::Carry(id(heap, dice, plain)?.as_slice()))?,
-        19 => spelled(heap, fetch(dice.below(houses.saturating_add(1))))?,
+        19 => spelled(heap, Command::Fetch(dice.below(houses.saturating_add(1))))?,
         _ => small(heap, dice, k)?,
     };
     match text {
@@ -164,11 +164,7 @@ fn command(heap: Global, dice: &mut Dice, plain: &Plain, k: u64) -> Result<Vec<u
 fn stop(heap: Global, dice: &mut Dice) -> Result<Stop, AllocError> {
     let mut left = Vec::new(heap);
     for _ in 0..dice.below(40) {
-        left.push(match dice.below(3) {
-            0 => Left::Nothing,
-            1 => Left::All,
-            _ => Left::FirstHalf,
-        })?;
+        left.push(Left::from(dice.below(3)))?;
     }
     let most = match dice.below(3) {
         0 => 4,
