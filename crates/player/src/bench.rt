@@ -239,7 +239,7 @@ impl Bench {
             heap,
             pages,
             worlds,
-            dice: Dice::new(1),
+            dice: Dice::new(heap, 1),
             plain: Plain::new(heap, houses)?,
             counts: Counts::default(),
         })
@@ -605,7 +605,7 @@ impl Bench {
             }
             return Ok(left);
         }
-        let mut dice = Dice::new(self.dice.next());
+        let mut dice = Dice::new(self.heap, self.dice.next());
         for _ in 0..waiting {
             let digit = if i < 3 { i } else { dice.below(3) };
             left.push(Left::from(digit))?;

@@ -70,8 +70,6 @@ pub struct Run {
     out: Vec<u8>,
     showed: Vec<Vec<u8>>,
     pub end: End,
-    // whether the last act changed what the device keeps or what waits
-    touched: bool,
 }
 
 impl fmt::Display for End {
@@ -186,7 +184,6 @@ impl Run {
             out: vec![in heap; 0u8; OUT]?,
             showed: Vec::new(heap),
             end: End::Running,
-            touched: false,
         })
     }
 
@@ -236,9 +233,8 @@ impl Run {
     }
 
     // One act of the house, with the house that it may write to.
-    fn act(&mut self, pair: &mut Pair) -> Result<(), AllocError> {
+    fn act(&mut self, pair: &mut Pair) -> Result<Told, AllocError> {
         let told = self.step(&mut pair.here);
-        self.touched = matches!(told, Told::Write(_) | Told::Flush);
         match told {
             Told::Read(at) => self.next = Next::Page(pair.here.device.read(at as usize)),
             Told::Write(at) => {
@@ -266,7 +262,7 @@ impl Run {
                 };
             }
         }
-        Ok(())
+        Ok(told)
     }
 
     // Acts until the run has ended, or so many.
@@ -283,8 +279,8 @@ impl Run {
     // Acts up to one that changed the pages, or to the end.
     pub fn drive_on(&mut self, pair: &mut Pair) -> Result<(), AllocError> {
         for _ in 0..MOST_ACTS {
-            self.act(pair)?;
-            if self.touched || self.end != End::Running {
+            let told = self.act(pair)?;
+            if matches!(told, Told::Write(_) | Told::Flush) || self.end != End::Running {
                 break;
             }
         }
@@ -307,7 +303,7 @@ impl Run {
                 self.letters -= 1;
                 self.next = Next::Heard(letter);
             }
-            Reply::None => {
+            Reply::Gone => {
                 self.letters = 0;
                 self.next = Next::Lost;
             }
@@ -320,7 +316,8 @@ impl Run {
 #[derive(Drop)]
 enum Reply {
     Letter(Vec<u8>),
-    None,
+    // it did what is no reply
+    Gone,
     // its acts ran out
     Cut,
 }
@@ -334,7 +331,7 @@ fn reply_of(world: &mut World, letter: Vec<u8>) -> Result<Reply, AllocError> {
             Told::Read(at) => run.next = Next::Page(world.device.read(at as usize)),
             Told::Write(at) => {
                 if !world.write(at, run.out.as_slice())? {
-                    return Ok(Reply::None);
+                    return Ok(Reply::Gone);
                 }
                 run.next = Next::GoOn;
             }
@@ -343,7 +340,7 @@ fn reply_of(world: &mut World, letter: Vec<u8>) -> Result<Reply, AllocError> {
                 run.next = Next::GoOn;
             }
             Told::Send(to) => return Ok(Reply::Letter(run.front(to % 4097).to_vec(heap)?)),
-            _ => return Ok(Reply::None),
+            _ => return Ok(Reply::Gone),
         }
     }
     Ok(Reply::Cut)

@@ -199,15 +199,20 @@ fn play_random<F: FnMut(&Item) -> io::Result<()>>(
 ) -> anyhow::Result<Counts>
     requires { F.IsAlwaysCallable show }
 {
-    let mut dice = Dice::new(seed);
+    let mut dice = Dice::new(rt.alloc(), seed);
     let (houses, pages) = setting(&mut dice);
     let mut bench = Bench::new(rt.alloc(), houses, pages)?;
     let whose = format!(in rt.alloc(); "seed {seed}")?;
     let mut agrees = true;
     for i in 0..dice.below(80).saturating_add(20) as usize {
         let house = dice.below(houses as u64) as usize;
-        let up = bench.is_up(house);
-        let item = random::item(rt.alloc(), &mut dice, &bench.plain, house, up)?;
+        let stop = dice.stop()?;
+        let what = if bench.is_up(house) {
+            dice.said(&bench.plain)?
+        } else {
+            What::Power
+        };
+        let item = Item { house, what, stop };
         show(&item)?;
         if agrees {
             let played = bench.play(&item);
@@ -232,7 +237,7 @@ fn play_many(rt: &HostRuntime, seed: u64, days: u64) -> anyhow::Result<Counts> {
 
 // A random day that is played and written out.
 fn print_random(rt: &HostRuntime, seed: u64) -> anyhow::Result<Counts> {
-    let (houses, pages) = setting(&mut Dice::new(seed));
+    let (houses, pages) = setting(&mut Dice::new(rt.alloc(), seed));
     println!(rt; "houses {houses}\npages {pages}")?;
     play_random(rt, seed, |item| println!(rt; "{item}"))
 }
