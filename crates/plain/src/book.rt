@@ -1,4 +1,6 @@
 // All commits there ever were, numbered as they came; their ids; which come before which.
+ghost use Rattle.std.specs.Prelude.{◌≡◌, ◌<◌, IfOk, take, vec_len};
+
 use crate::tree::Tree;
 use pages::bytes::in_eight;
 use std::alloc::{AllocError, Global};
@@ -43,14 +45,18 @@ fn put_tree(out: &mut Vec<u8>, tree: &Tree) -> Result<(), AllocError> {
 }
 
 impl Book {
-    pub fn new(heap: Global) -> Book {
+    pub fn new(heap: Global) -> Book
+        ensures { vec_len result.commits ≡ 0 }
+    {
         Book {
             heap,
             commits: Vec::new(heap),
         }
     }
 
-    pub fn len(&self) -> usize {
+    pub fn len(&self) -> usize
+        ensures { result ≡ vec_len self.now.commits }
+    {
         self.commits.len()
     }
 
@@ -108,7 +114,10 @@ impl Book {
         tree: Tree,
         stamp: u64,
         words: Vec<u8>,
-    ) -> Result<usize, AllocError> {
+    ) -> Result<usize, AllocError>
+        ensures number { IfOk result (λ k. k < vec_len self.new.commits) }
+        ensures old_stay { take (vec_len self.old.commits) self.new.commits.items ≡ self.old.commits.items }
+    {
         let there = self.commits.iter().position(|old| {
             old.stamp == stamp && old.parents == parents && old.words == words && old.tree == tree
         });

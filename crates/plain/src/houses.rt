@@ -1,4 +1,6 @@
 // The plain houses: what each command shows, or why it is refused, and what is afterwards.
+ghost use Rattle.std.specs.Prelude.{◌≡◌, IfOk, OnErr};
+
 use crate::book::Book;
 use crate::refusal;
 use crate::tree::{Met, Tree, alike, meet};
@@ -219,6 +221,7 @@ impl House {
         tip.ok_or(Refusal::NotThere)
     }
 
+    // As it stands: this and `tag` share `tip_for`; one function for both would need a closure that picks the map.
     fn branch(&mut self, name: &[u8]) -> Result<Shown, Trouble> {
         let heap = self.heap();
         let k = self.tip_for(name)?;
@@ -562,7 +565,9 @@ impl Plain {
     }
 
     // What the command does at house c, of which x is a copy that is changed; a refusal leaves both as they come.
-    fn turned(&mut self, x: &mut House, c: usize, command: Command<'_>) -> Result<Shown, Trouble> {
+    fn turned(&mut self, x: &mut House, c: usize, command: Command<'_>) -> Result<Shown, Trouble>
+        ensures { self.new.houses ≡ self.old.houses }
+    {
         match command {
             Command::WriteFile(path, bytes) => x.write_file(path, bytes),
             Command::DropFile(path) => x.drop_file(path),
@@ -591,7 +596,10 @@ impl Plain {
         &mut self,
         c: usize,
         command: Command<'_>,
-    ) -> Result<Result<Shown, Refusal>, AllocError> {
+    ) -> Result<Result<Shown, Refusal>, AllocError>
+        ensures refused { IfOk result (λ r. OnErr r (self.new.houses ≡ self.old.houses)) }
+        ensures err { OnErr result (self.new.houses ≡ self.old.houses) }
+    {
         let Some(house) = self.houses.get(c) else {
             return Ok(Err(Refusal::NotThere));
         };

@@ -1,4 +1,5 @@
 // Files by rising path, and how two trees are put together.
+ghost use Rattle.std.specs.BTreeMap.{btree_map_len};
 ghost use Rattle.std.specs.Prelude.{◌≡◌};
 ghost use Rattle.plain.specs.Sides.{Meets, is_clash, left, rows};
 ghost use Rattle.trees.specs.Tree.{alike};
@@ -53,7 +54,9 @@ impl Tree {
         }
     }
 
-    pub fn len(&self) -> usize {
+    pub fn len(&self) -> usize
+        ensures { result ≡ btree_map_len self.now.files }
+    {
         self.files.len()
     }
 
