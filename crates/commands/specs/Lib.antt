@@ -3,3 +3,4 @@ pub mod Laws
 pub mod Parse
 pub mod Meaning
 pub mod Spell
+pub mod Refusal

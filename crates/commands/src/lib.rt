@@ -5,8 +5,10 @@ mod command;
 pub mod laws;
 mod parts;
 mod reader;
+mod refusal;
 mod writer;
 
 pub use command::Command;
 pub use reader::parse;
+pub use refusal::{NoRefusal, Refusal};
 pub use writer::spell;

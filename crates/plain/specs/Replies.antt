@@ -1,12 +1,23 @@
 -- Which refusal comes first, by the conditions that a plain house's turn tests. Assumes nothing: these are definitions.
-use Rattle.std.specs.Prelude.{◌≡◌, ℕ, Bool, not, ◌&&◌, List, ◌++◌}
+use Rattle.std.specs.Prelude.{◌≡◌, ℕ, Bool, not, ◌&&◌, List, [], ◌∷◌, ◌++◌, Result, Ok, Err}
 use Rattle.pages.specs.Lists.{pick, none_of, same}
 use Rattle.history.specs.Book.{Sum}
 use Rattle.commands.specs.Command.{branch, go_to, commit, tag, forget}
+use Rattle.commands.specs.Refusal.{number_of}
+use Rattle.commands.specs.declared.refusal.Refusal.{Refusal}
 use Rattle.house.specs.House.{Plain, Clone, turn, ref_of, tip, clean}
 
 abbrev pub taken_at : Clone → List ℕ → Bool
 taken_at x n = not (none_of (ref_of (x.branches ++ x.tags) n) && not (same n x.here))
+
+-- 0 where nothing is refused, otherwise the number of the refusal
+abbrev pub reply_of : Result (Unit {0}) Refusal → ℕ
+reply_of (Ok _) = 0
+reply_of (Err e) = number_of e
+
+abbrev pub first_number : List (Bool × Refusal) → ℕ
+first_number [] = 0
+first_number (c ∷ cs) = pick c.0 (number_of c.1) (first_number cs)
 
 -- the number of the first condition that holds, 0 where none does
 abbrev pub of_name : Bool → Bool → ℕ

@@ -1,7 +1,11 @@
 // All commits there ever were, numbered as they came; their ids; which come before which.
+ghost use Rattle.std.specs.Prelude.{◌≡◌, ◌<◌, IfOk, take, vec_len};
+
 use crate::tree::Tree;
 use pages::bytes::in_eight;
 use std::alloc::{AllocError, Global};
+use std::cmp::Reverse;
+use std::collections::BTreeSet;
 use store::hasher::sum;
 
 #[derive(Drop)]
@@ -31,43 +35,26 @@ fn sum_of(bytes: &[u8]) -> [u8; 32] {
 
 fn put_tree(out: &mut Vec<u8>, tree: &Tree) -> Result<(), AllocError> {
     out.extend_from_slice(&in_eight(tree.len() as u64))?;
-    for file in tree.files.iter() {
-        put_row(out, file.path.as_slice())?;
-        put_row(out, &sum_of(file.bytes.as_slice()))?;
+    for (path, bytes) in tree.files.iter() {
+        put_row(out, path.as_slice())?;
+        put_row(out, &sum_of(bytes.as_slice()))?;
     }
     Ok(())
 }
 
-fn is_set(marks: &Vec<bool>, k: usize) -> bool {
-    marks.get(k).copied().unwrap_or(false)
-}
-
-fn mark(marks: &mut Vec<bool>, k: usize) {
-    if k < marks.len() {
-        marks[k] = true;
-    }
-}
-
-// The numbers that are marked, rising.
-pub fn marked(heap: Global, marks: &Vec<bool>) -> Result<Vec<usize>, AllocError> {
-    let mut all = Vec::new(heap);
-    for (k, there) in marks.iter().enumerate() {
-        if *there {
-            all.push(k)?;
-        }
-    }
-    Ok(all)
-}
-
 impl Book {
-    pub fn new(heap: Global) -> Book {
+    pub fn new(heap: Global) -> Book
+        ensures { vec_len result.commits ≡ 0 }
+    {
         Book {
             heap,
             commits: Vec::new(heap),
         }
     }
 
-    pub fn len(&self) -> usize {
+    pub fn len(&self) -> usize
+        ensures { result ≡ vec_len self.now.commits }
+    {
         self.commits.len()
     }
 
@@ -77,8 +64,7 @@ impl Book {
 
     // The tree of a commit; none where there is no commit.
     pub fn tree(&self, k: Option<usize>) -> Option<&Tree> {
-        let commit = self.commits.get(k?)?;
-        Some(&commit.tree)
+        Some(&self.commits.get(k?)?.tree)
     }
 
     pub fn tree_copy(&self, k: Option<usize>) -> Result<Tree, AllocError> {
@@ -94,29 +80,23 @@ impl Book {
     }
 
     pub fn id(&self, k: usize) -> [u8; 32] {
-        match self.commits.get(k) {
-            Some(commit) => commit.id,
-            None => [0; 32],
-        }
+        self.commits.get(k).map_or([0; 32], |commit| commit.id)
     }
 
     pub fn stamp(&self, k: usize) -> u64 {
-        match self.commits.get(k) {
-            Some(commit) => commit.stamp,
-            None => 0,
-        }
+        self.commits.get(k).map_or(0, |commit| commit.stamp)
     }
 
     fn spelled(
         &self,
-        parents: &Vec<usize>,
+        parents: &[usize],
         tree: &Tree,
         stamp: u64,
         words: &[u8],
     ) -> Result<Vec<u8>, AllocError> {
         let mut out = Vec::new(self.heap);
         out.extend_from_slice(&in_eight(parents.len() as u64))?;
-        for k in parents.iter() {
+        for k in parents {
             put_row(&mut out, &self.id(*k))?;
         }
         put_tree(&mut out, tree)?;
@@ -132,50 +112,43 @@ impl Book {
         tree: Tree,
         stamp: u64,
         words: Vec<u8>,
-    ) -> Result<usize, AllocError> {
-        for (k, old) in self.commits.iter().enumerate() {
-            if old.stamp == stamp
-                && old.parents == parents
-                && old.words == words
-                && old.tree == tree
-            {
-                return Ok(k);
-            }
+    ) -> Result<usize, AllocError>
+        ensures number { IfOk result (λ k. k < vec_len self.new.commits) }
+        ensures old_stay { take (vec_len self.old.commits) self.new.commits.items ≡ self.old.commits.items }
+    {
+        let there = self.commits.iter().position(|old| {
+            old.stamp == stamp && old.parents == parents && old.words == words && old.tree == tree
+        });
+        if let Some(k) = there {
+            return Ok(k);
         }
-        let id = sum_of(
-            self.spelled(&parents, &tree, stamp, words.as_slice())?
-                .as_slice(),
-        );
+        let spelled = self.spelled(parents.as_slice(), &tree, stamp, words.as_slice())?;
         let k = self.commits.len();
         self.commits.push(Commit {
             parents,
             tree,
             stamp,
             words,
-            id,
+            id: sum_of(spelled.as_slice()),
         })?;
         Ok(k)
     }
 
-    // These commits and all that come before them, as marks.
-    pub fn back(&self, starts: &[usize]) -> Result<Vec<bool>, AllocError> {
-        let mut marks = vec![in self.heap; false; self.commits.len()]?;
-        for k in starts {
-            mark(&mut marks, *k);
-        }
+    // These commits and all that come before them.
+    pub fn back(&self, starts: &[usize]) -> Result<BTreeSet<usize>, AllocError> {
+        let mut reached = BTreeSet::new(self.heap);
+        reached.extend(starts)?;
         for (k, commit) in self.commits.iter().enumerate().rev() {
-            if is_set(&marks, k) {
-                for parent in commit.parents.iter() {
-                    mark(&mut marks, *parent);
-                }
+            if reached.contains(&k) {
+                reached.extend(commit.parents.iter())?;
             }
         }
-        Ok(marks)
+        Ok(reached)
     }
 
     // Whether commit k is j or comes from it.
     pub fn under(&self, j: usize, k: usize) -> Result<bool, AllocError> {
-        Ok(is_set(&self.back(&[k])?, j))
+        Ok(self.back(&[k])?.contains(&j))
     }
 
     // The latest that both come from: no other that both come from comes from them.
@@ -183,47 +156,28 @@ impl Book {
         let theirs = self.back(&[j])?;
         let ours = self.back(&[k])?;
         let mut latest = Vec::new(self.heap);
-        let mut covered = vec![in self.heap; false; self.commits.len()]?;
-        for i in (0..self.commits.len()).rev() {
-            if is_set(&theirs, i) && is_set(&ours, i) && !is_set(&covered, i) {
-                latest.push(i)?;
-                for (h, there) in self.back(&[i])?.iter().enumerate() {
-                    if *there {
-                        mark(&mut covered, h);
-                    }
-                }
+        let mut covered = BTreeSet::new(self.heap);
+        for i in theirs.iter().rev() {
+            if ours.contains(i) && !covered.contains(i) {
+                latest.push(*i)?;
+                covered.append(&mut self.back(&[*i])?)?;
             }
         }
         Ok(latest)
     }
 
-    fn sooner(&self, j: usize, k: usize) -> bool {
-        let (a, b) = (self.stamp(j), self.stamp(k));
-        b < a || (a == b && self.id(j) < self.id(k))
-    }
-
     // Of the commits that are left, one from which no other comes: the one with the largest stamp, of several the one with the least id.
-    fn next_of(&self, left: &Vec<bool>) -> Option<usize> {
-        let mut best: Option<usize> = None;
-        for j in 0..self.commits.len() {
-            if is_set(left, j) && self.is_free(left, j) {
-                best = match best {
-                    Some(k) => Some(if self.sooner(j, k) { j } else { k }),
-                    None => Some(j),
-                };
-            }
-        }
-        best
+    fn next_of(&self, left: &BTreeSet<usize>) -> Option<usize> {
+        left.iter()
+            .copied()
+            .filter(|j| self.is_free(left, *j))
+            .min_by_key(|j| (Reverse(self.stamp(*j)), self.id(*j)))
     }
 
     // Whether no commit that is left has this one as a parent. What is left is whole: with a commit, all that comes before it.
-    fn is_free(&self, left: &Vec<bool>, j: usize) -> bool {
-        for (k, commit) in self.commits.iter().enumerate() {
-            if is_set(left, k) && commit.parents.contains(&j) {
-                return false;
-            }
-        }
-        true
+    fn is_free(&self, left: &BTreeSet<usize>, j: usize) -> bool {
+        !self.commits.iter().enumerate().any(|(k, commit)| left.contains(&k)
+            && commit.parents.contains(&j))
     }
 
     // A commit and all before it, in the order of a log.
@@ -233,13 +187,10 @@ impl Book {
             return Ok(order);
         };
         let mut left = self.back(&[tip])?;
-        for _ in 0..self.commits.len() {
-            let Some(k) = self.next_of(&left) else {
-                break;
-            };
-            order.push(k)?;
-            if k < left.len() {
-                left[k] = false;
+        for _ in 0..left.len() {
+            if let Some(k) = self.next_of(&left) {
+                order.push(k)?;
+                left.remove(&k);
             }
         }
         Ok(order)

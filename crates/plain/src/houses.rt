@@ -1,35 +1,35 @@
 // The plain houses: what each command shows, or why it is refused, and what is afterwards.
-use crate::book::{Book, marked};
+ghost use Rattle.std.specs.Prelude.{◌≡◌, IfOk, OnErr};
+
+use crate::book::Book;
 use crate::refusal;
-use crate::tree::{Tree, alike, meet};
-use commands::Command;
-use std::alloc::{AllocError, Global};
+use crate::tree::{Met, Tree, alike, meet};
+use commands::{Command, Refusal};
+use std::alloc::{AllocError, AllocFailed, Global};
+use std::collections::{BTreeMap, BTreeSet};
 
 const MOST_FILES: usize = 4096;
 
-#[derive(Clone, Drop)]
-pub struct Ref {
-    pub name: Vec<u8>,
-    pub to: usize,
-}
+// The commits of names.
+pub type Refs = BTreeMap<Vec<u8>, usize>;
 
 #[derive(Clone, Drop)]
 pub struct House {
-    pub branches: Vec<Ref>,
-    pub tags: Vec<Ref>,
+    pub branches: Refs,
+    pub tags: Refs,
     // branches of other houses, as they were when fetched: the house's number before the name
-    pub others: Vec<Ref>,
+    pub others: Refs,
     // the branch on which one works; it may have no commit yet
     pub here: Vec<u8>,
     pub work: Tree,
     // the commit that is being joined
     pub joining: Option<usize>,
     // paths that clash
-    pub unsettled: Vec<Vec<u8>>,
+    pub unsettled: BTreeSet<Vec<u8>>,
 }
 
 // How the rows that a command shows are to be read.
-#[derive(Clone, Copy, PartialEq)]
+#[derive(Clone, Copy, Debug, PartialEq, Eq)]
 pub enum Form {
     Rows,
     Ids,
@@ -39,12 +39,36 @@ pub enum Form {
     Marks,
 }
 
-// What a command does: 0 done, otherwise the number of the refusal; and what is shown.
+// What a command that is done shows.
 #[derive(Drop)]
-pub struct Turn {
-    pub reply: u64,
+pub struct Shown {
     pub form: Form,
-    pub shows: Vec<Vec<u8>>,
+    pub rows: Vec<Vec<u8>>,
+}
+
+// Why a turn comes to nothing.
+#[derive(Drop)]
+enum Trouble {
+    Memory(AllocError),
+    Refused(Refusal),
+}
+
+impl From<AllocError> for Trouble {
+    fn from(error: AllocError) -> Trouble {
+        Trouble::Memory(error)
+    }
+}
+
+impl<T: Drop> From<AllocFailed<T>> for Trouble {
+    fn from(error: AllocFailed<T>) -> Trouble {
+        Trouble::Memory(AllocError::from(error))
+    }
+}
+
+impl From<Refusal> for Trouble {
+    fn from(refusal: Refusal) -> Trouble {
+        Trouble::Refused(refusal)
+    }
 }
 
 #[derive(Drop)]
@@ -62,463 +86,366 @@ pub struct Past {
     before: House,
 }
 
-fn refused(heap: Global, reply: u64) -> Turn {
-    Turn {
-        reply,
-        form: Form::Rows,
-        shows: Vec::new(heap),
-    }
-}
-
-fn done(heap: Global) -> Turn {
-    refused(heap, 0)
-}
-
-fn shown(form: Form, shows: Vec<Vec<u8>>) -> Turn {
-    Turn {
-        reply: 0,
-        form,
-        shows,
-    }
-}
-
-fn one_row(heap: Global, form: Form, row: &[u8]) -> Result<Turn, AllocError> {
-    let mut shows = Vec::new(heap);
-    shows.push(row.to_vec(heap)?)?;
-    Ok(shown(form, shows))
-}
-
-fn ids(heap: Global, book: &Book, commits: &Vec<usize>) -> Result<Turn, AllocError> {
-    let mut shows = Vec::new(heap);
-    for k in commits.iter() {
-        shows.push(book.id(*k).to_vec(heap)?)?;
-    }
-    Ok(shown(Form::Ids, shows))
-}
-
-// The row, or the refusal of what is not there.
-fn row_or_none(heap: Global, row: Option<&[u8]>) -> Result<Turn, AllocError> {
-    match row {
-        Some(bytes) => one_row(heap, Form::Rows, bytes),
-        None => Ok(refused(heap, 3)),
-    }
-}
-
-fn ref_of(refs: &Vec<Ref>, name: &[u8]) -> Option<usize> {
-    for one in refs.iter() {
-        if one.name.as_slice() == name {
-            return Some(one.to);
+impl Shown {
+    fn nothing(heap: Global) -> Shown {
+        Shown {
+            form: Form::Rows,
+            rows: Vec::new(heap),
         }
     }
-    None
-}
 
-fn set_ref(heap: Global, refs: &mut Vec<Ref>, name: &[u8], to: usize) -> Result<(), AllocError> {
-    for one in refs.iter_mut() {
-        if one.name.as_slice() == name {
-            one.to = to;
-            return Ok(());
-        }
+    fn row(heap: Global, form: Form, row: &[u8]) -> Result<Shown, AllocError> {
+        let rows = vec![in heap; row.to_vec(heap)?]?;
+        Ok(Shown { form, rows })
     }
-    refs.push(Ref {
-        name: name.to_vec(heap)?,
-        to,
-    })?;
-    Ok(())
-}
 
-fn has_row(rows: &Vec<Vec<u8>>, row: &[u8]) -> bool {
-    for one in rows.iter() {
-        if one.as_slice() == row {
-            return true;
+    fn ids(book: &Book, commits: &[usize]) -> Result<Shown, AllocError> {
+        let mut rows = Vec::new(book.heap);
+        for k in commits {
+            rows.push(book.id(*k).to_vec(book.heap)?)?;
         }
+        Ok(Shown {
+            form: Form::Ids,
+            rows,
+        })
     }
-    false
-}
-
-fn without_row(heap: Global, rows: &Vec<Vec<u8>>, row: &[u8]) -> Result<Vec<Vec<u8>>, AllocError> {
-    let mut kept = Vec::new(heap);
-    for one in rows.iter() {
-        if one.as_slice() != row {
-            kept.push(one.clone()?)?;
-        }
-    }
-    Ok(kept)
 }
 
 impl House {
     pub fn new(heap: Global) -> Result<House, AllocError> {
         Ok(House {
-            branches: Vec::new(heap),
-            tags: Vec::new(heap),
-            others: Vec::new(heap),
+            branches: BTreeMap::new(heap),
+            tags: BTreeMap::new(heap),
+            others: BTreeMap::new(heap),
             here: b"main".to_vec(heap)?,
             work: Tree::new(heap),
             joining: None,
-            unsettled: Vec::new(heap),
+            unsettled: BTreeSet::new(heap),
         })
     }
 
+    fn heap(&self) -> Global {
+        *self.here.allocator()
+    }
+
     pub fn tip(&self) -> Option<usize> {
-        ref_of(&self.branches, self.here.as_slice())
+        self.branches.get(self.here.as_slice()).copied()
     }
 
     // The commit of a branch, a tag or another house's branch.
     pub fn named(&self, name: &[u8]) -> Option<usize> {
-        if let Some(k) = ref_of(&self.branches, name) {
-            return Some(k);
-        }
-        if let Some(k) = ref_of(&self.tags, name) {
-            return Some(k);
-        }
-        ref_of(&self.others, name)
+        let found = self.branches.get(name).or(self.tags.get(name));
+        found.or(self.others.get(name)).copied()
     }
 
-    pub fn all_refs(&self, heap: Global) -> Result<Vec<Ref>, AllocError> {
-        let mut all = self.branches.clone()?;
-        for one in self.tags.iter() {
-            all.push(one.clone()?)?;
-        }
-        for one in self.others.iter() {
-            all.push(one.clone()?)?;
-        }
-        Ok(all)
+    // All names, each with its commit.
+    pub fn all_refs(&self) -> Result<Vec<(&[u8], usize)>, AllocError> {
+        self.branches
+            .iter()
+            .chain(self.tags.iter())
+            .chain(self.others.iter())
+            .map(|(name, to)| (name.as_slice(), *to))
+            .collect(self.heap())
     }
 
-    // The commits that the house can reach, as marks.
-    pub fn reached(&self, book: &Book) -> Result<Vec<bool>, AllocError> {
+    // The commits that the house can reach.
+    pub fn reached(&self, book: &Book) -> Result<BTreeSet<usize>, AllocError> {
         let mut starts = Vec::new(book.heap);
-        for one in self.all_refs(book.heap)?.iter() {
-            starts.push(one.to)?;
+        for (_, to) in self.all_refs()?.iter() {
+            starts.push(*to)?;
         }
-        if let Some(k) = self.joining {
-            starts.push(k)?;
-        }
+        starts.extend(self.joining)?;
         book.back(starts.as_slice())
     }
 
     fn is_unchanged(&self, book: &Book) -> bool {
         let same = match book.tree(self.tip()) {
             Some(tree) => *tree == self.work,
-            None => self.work.len() == 0,
+            None => self.work.is_empty(),
         };
         same && self.joining.is_none()
     }
 
     fn is_taken(&self, name: &[u8]) -> bool {
-        ref_of(&self.branches, name).is_some()
-            || ref_of(&self.tags, name).is_some()
+        self.branches.contains_key(name)
+            || self.tags.contains_key(name)
             || self.here.as_slice() == name
+    }
+
+    // The tree of a commit in work, and nothing else.
+    fn take_up(&mut self, book: &Book, k: Option<usize>) -> Result<(), AllocError> {
+        self.work = book.tree_copy(k)?;
+        self.joining = None;
+        self.unsettled.clear();
+        Ok(())
     }
 
     // Our branch at a commit, and its tree in work.
     fn move_to(&mut self, book: &Book, k: usize) -> Result<(), AllocError> {
-        let here = self.here.clone()?;
-        set_ref(book.heap, &mut self.branches, here.as_slice(), k)?;
-        self.work = book.tree_copy(Some(k))?;
-        self.joining = None;
-        self.unsettled = Vec::new(book.heap);
-        Ok(())
+        self.branches.insert(self.here.clone()?, k)?;
+        self.take_up(book, Some(k))
     }
 
-    fn write_file(&mut self, heap: Global, path: &[u8], bytes: &[u8]) -> Result<Turn, AllocError> {
+    fn write_file(&mut self, path: &[u8], bytes: &[u8]) -> Result<Shown, Trouble> {
+        let heap = self.heap();
         if self.work.find(path).is_none() && self.work.len() >= MOST_FILES {
-            return Ok(refused(heap, 10));
+            return Err(Trouble::Refused(Refusal::TooManyFiles));
         }
-        self.work.put(heap, path, bytes)?;
-        self.unsettled = without_row(heap, &self.unsettled, path)?;
-        Ok(done(heap))
+        self.work.put(path.to_vec(heap)?, bytes.to_vec(heap)?)?;
+        self.unsettled.remove(path);
+        Ok(Shown::nothing(heap))
     }
 
-    fn drop_file(&mut self, heap: Global, path: &[u8]) -> Result<Turn, AllocError> {
-        if self.work.find(path).is_none() {
-            return Ok(refused(heap, 3));
-        }
+    fn drop_file(&mut self, path: &[u8]) -> Result<Shown, Trouble> {
+        self.work.find(path).ok_or(Refusal::NotThere)?;
         self.work.remove(path);
-        self.unsettled = without_row(heap, &self.unsettled, path)?;
-        Ok(done(heap))
+        self.unsettled.remove(path);
+        Ok(Shown::nothing(self.heap()))
     }
 
-    fn commit(&mut self, book: &mut Book, stamp: u64, words: &[u8]) -> Result<Turn, AllocError> {
+    fn commit(&mut self, book: &mut Book, stamp: u64, words: &[u8]) -> Result<Shown, Trouble> {
         let heap = book.heap;
-        let reply = refusal::of_commit(!self.unsettled.is_empty(), self.is_unchanged(book));
-        if reply != 0 {
-            return Ok(refused(heap, reply));
-        }
+        refusal::of_commit(!self.unsettled.is_empty(), self.is_unchanged(book))?;
         let mut parents = Vec::new(heap);
-        if let Some(k) = self.tip() {
-            parents.push(k)?;
-        }
-        if let Some(k) = self.joining {
-            parents.push(k)?;
-        }
+        parents.extend(self.tip())?;
+        parents.extend(self.joining)?;
         let k = book.note(parents, self.work.clone()?, stamp, words.to_vec(heap)?)?;
         self.move_to(book, k)?;
-        one_row(heap, Form::Ids, &book.id(k))
+        Ok(Shown::row(heap, Form::Ids, &book.id(k))?)
     }
 
-    // A new name, for a branch or a tag, at the commit where we are.
-    fn name_tip(&mut self, heap: Global, name: &[u8], is_tag: bool) -> Result<Turn, AllocError> {
+    // The commit where we are, for a new name.
+    fn tip_for(&self, name: &[u8]) -> Result<usize, Refusal> {
         let tip = self.tip();
-        let reply = refusal::of_name(self.is_taken(name), tip.is_none());
-        let Some(k) = tip else {
-            return Ok(refused(heap, reply));
-        };
-        if reply != 0 {
-            return Ok(refused(heap, reply));
-        }
-        if is_tag {
-            set_ref(heap, &mut self.tags, name, k)?;
-        } else {
-            set_ref(heap, &mut self.branches, name, k)?;
-        }
-        Ok(done(heap))
+        refusal::of_name(self.is_taken(name), tip.is_none())?;
+        tip.ok_or(Refusal::NotThere)
     }
 
-    fn go_to(&mut self, book: &Book, name: &[u8]) -> Result<Turn, AllocError> {
-        let heap = book.heap;
-        let there = ref_of(&self.branches, name);
-        let reply = refusal::of_going(there.is_none(), !self.is_unchanged(book));
-        if reply != 0 {
-            return Ok(refused(heap, reply));
-        }
-        self.here = name.to_vec(heap)?;
-        self.work = book.tree_copy(there)?;
-        self.joining = None;
-        self.unsettled = Vec::new(heap);
-        Ok(done(heap))
+    // As it stands: this and `tag` share `tip_for`; one function for both would need a closure that picks the map.
+    fn branch(&mut self, name: &[u8]) -> Result<Shown, Trouble> {
+        let heap = self.heap();
+        let k = self.tip_for(name)?;
+        self.branches.insert(name.to_vec(heap)?, k)?;
+        Ok(Shown::nothing(heap))
     }
 
-    fn history(&self, book: &Book) -> Result<Turn, AllocError> {
-        let mut shows = Vec::new(book.heap);
+    fn tag(&mut self, name: &[u8]) -> Result<Shown, Trouble> {
+        let heap = self.heap();
+        let k = self.tip_for(name)?;
+        self.tags.insert(name.to_vec(heap)?, k)?;
+        Ok(Shown::nothing(heap))
+    }
+
+    fn go_to(&mut self, book: &Book, name: &[u8]) -> Result<Shown, Trouble> {
+        let there = self.branches.get(name).copied();
+        refusal::of_going(there.is_none(), !self.is_unchanged(book))?;
+        self.here = name.to_vec(book.heap)?;
+        self.take_up(book, there)?;
+        Ok(Shown::nothing(book.heap))
+    }
+
+    fn history(&self, book: &Book) -> Result<Shown, Trouble> {
+        let mut rows = Vec::new(book.heap);
         for k in book.log(self.tip())?.iter() {
             let mut line = book.id(*k).to_vec(book.heap)?;
             if let Some(commit) = book.get(*k) {
                 line.extend_from_slice(commit.words.as_slice())?;
             }
-            shows.push(line)?;
+            rows.push(line)?;
         }
-        Ok(shown(Form::Lines, shows))
+        Ok(Shown {
+            form: Form::Lines,
+            rows,
+        })
     }
 
-    fn status(&self, book: &Book) -> Result<Turn, AllocError> {
+    fn status(&self, book: &Book) -> Result<Shown, Trouble> {
         let heap = book.heap;
-        let mut shows = Vec::new(heap);
+        let mut rows = Vec::new(heap);
         let old = book.tree_copy(self.tip())?;
         for path in old.paths_of_both(heap, &self.work)?.iter() {
-            let was = old.find(path.as_slice());
-            let is = self.work.find(path.as_slice());
-            if !alike(was, is) {
-                let kind = if was.is_none() {
-                    1
-                } else if is.is_none() {
-                    3
-                } else {
-                    2
-                };
-                shows.push(marked_path(heap, kind, path.as_slice())?)?;
+            let kind = match (old.find(path), self.work.find(path)) {
+                (was, is) if alike(was, is) => None,
+                (None, _) => Some(1),
+                (_, None) => Some(3),
+                _ => Some(2),
+            };
+            if let Some(kind) = kind {
+                rows.push(marked_path(heap, kind, path)?)?;
             }
         }
         for path in self.unsettled.iter() {
-            shows.push(marked_path(heap, 4, path.as_slice())?)?;
+            rows.push(marked_path(heap, 4, path.as_slice())?)?;
         }
-        Ok(shown(Form::Marks, shows))
+        Ok(Shown {
+            form: Form::Marks,
+            rows,
+        })
     }
 
-    fn settle(&mut self, heap: Global, path: &[u8]) -> Result<Turn, AllocError> {
-        if !has_row(&self.unsettled, path) {
-            return Ok(refused(heap, 6));
+    fn settle(&mut self, path: &[u8]) -> Result<Shown, Trouble> {
+        if !self.unsettled.remove(path) {
+            return Err(Trouble::Refused(Refusal::Clash));
         }
-        self.unsettled = without_row(heap, &self.unsettled, path)?;
-        Ok(done(heap))
+        Ok(Shown::nothing(self.heap()))
     }
 
-    fn leave(&mut self, book: &Book) -> Result<Turn, AllocError> {
-        self.work = book.tree_copy(self.tip())?;
-        self.joining = None;
-        self.unsettled = Vec::new(book.heap);
-        Ok(done(book.heap))
+    fn leave(&mut self, book: &Book) -> Result<Shown, Trouble> {
+        self.take_up(book, self.tip())?;
+        Ok(Shown::nothing(book.heap))
     }
 
-    fn join(&mut self, book: &Book, name: &[u8]) -> Result<Turn, AllocError> {
-        let heap = book.heap;
-        let (Some(j), Some(k)) = (self.named(name), self.tip()) else {
-            return Ok(refused(heap, 3));
-        };
-        let reply = refusal::of_joining(false, !self.is_unchanged(book), book.under(j, k)?);
-        if reply != 0 {
-            return Ok(refused(heap, reply));
-        }
+    // The commit of a name that is to be joined or moved onto, and ours.
+    fn apart(&self, book: &Book, name: &[u8]) -> Result<(usize, usize), Trouble> {
+        let j = self.named(name).ok_or(Refusal::NotThere)?;
+        let k = self.tip().ok_or(Refusal::NotThere)?;
+        refusal::of_joining(false, !self.is_unchanged(book), book.under(j, k)?)?;
+        Ok((j, k))
+    }
+
+    // Ours is behind theirs: we only move there.
+    fn move_ahead(&mut self, book: &Book, j: usize) -> Result<Shown, Trouble> {
+        self.move_to(book, j)?;
+        Ok(Shown::row(book.heap, Form::Ids, &book.id(j))?)
+    }
+
+    fn join(&mut self, book: &Book, name: &[u8]) -> Result<Shown, Trouble> {
+        let (j, k) = self.apart(book, name)?;
         if book.under(k, j)? {
-            self.move_to(book, j)?;
-            return one_row(heap, Form::Ids, &book.id(j));
+            return self.move_ahead(book, j);
         }
         let bases = book.latest_common(j, k)?;
-        let joined = join_trees(book, &bases, k, j)?;
-        if joined.tree.len() > MOST_FILES {
-            return Ok(refused(heap, 10));
+        let Joined { tree, clashes } = join_trees(book, bases.as_slice(), k, j)?;
+        if tree.len() > MOST_FILES {
+            return Err(Trouble::Refused(Refusal::TooManyFiles));
         }
-        self.work = joined.tree;
+        let mut rows = Vec::new(book.heap);
+        for path in clashes.iter() {
+            rows.push(path.clone()?)?;
+        }
+        self.work = tree;
         self.joining = Some(j);
-        self.unsettled = joined.clashes.clone()?;
-        Ok(shown(Form::Rows, joined.clashes))
+        self.unsettled = clashes;
+        Ok(Shown {
+            form: Form::Rows,
+            rows,
+        })
     }
 
-    fn move_onto(&mut self, book: &mut Book, name: &[u8]) -> Result<Turn, AllocError> {
-        let heap = book.heap;
-        let (Some(j), Some(k)) = (self.named(name), self.tip()) else {
-            return Ok(refused(heap, 3));
-        };
-        let reply = refusal::of_joining(false, !self.is_unchanged(book), book.under(j, k)?);
-        if reply != 0 {
-            return Ok(refused(heap, reply));
-        }
+    fn move_onto(&mut self, book: &mut Book, name: &[u8]) -> Result<Shown, Trouble> {
+        let (j, k) = self.apart(book, name)?;
         if book.under(k, j)? {
-            self.move_to(book, j)?;
-            return one_row(heap, Form::Ids, &book.id(j));
+            return self.move_ahead(book, j);
         }
         let mine = ours_alone(book, j, k)?;
-        let Some(way) = carry_all(book, j, &mine)? else {
-            return Ok(refused(heap, 6));
-        };
-        self.move_to(book, way.at)?;
-        ids(heap, book, &way.made)
+        let way = carry_all(book, j, mine.as_slice())?.ok_or(Refusal::Clash)?;
+        self.move_along(book, &way)
     }
 
-    fn carry(&mut self, book: &mut Book, id: &[u8]) -> Result<Turn, AllocError> {
-        let heap = book.heap;
-        let (Some(j), Some(k)) = (self.by_id(book, id)?, self.tip()) else {
-            return Ok(refused(heap, 3));
-        };
-        let unclean = !self.is_unchanged(book);
-        let mut one = Vec::new(heap);
-        one.push(j)?;
-        let carried = carry_all(book, k, &one)?;
-        let nothing = match &carried {
-            Some(way) => way.made.is_empty(),
-            None => false,
-        };
-        let reply = refusal::of_carrying(false, unclean, carried.is_none(), nothing);
-        let Some(way) = carried else {
-            return Ok(refused(heap, reply));
-        };
-        if reply != 0 {
-            return Ok(refused(heap, reply));
-        }
+    // Our branch where carrying has come to.
+    fn move_along(&mut self, book: &Book, way: &Way) -> Result<Shown, Trouble> {
         self.move_to(book, way.at)?;
-        ids(heap, book, &way.made)
+        Ok(Shown::ids(book, way.made.as_slice())?)
+    }
+
+    fn carry(&mut self, book: &mut Book, id: &[u8]) -> Result<Shown, Trouble> {
+        let j = self.by_id(book, id)?.ok_or(Refusal::NotThere)?;
+        let k = self.tip().ok_or(Refusal::NotThere)?;
+        let unclean = !self.is_unchanged(book);
+        let carried = carry_all(book, k, &[j])?;
+        let nothing = matches!(&carried, Some(way) if way.made.is_empty());
+        refusal::of_carrying(false, unclean, carried.is_none(), nothing)?;
+        let way = carried.ok_or(Refusal::Clash)?;
+        self.move_along(book, &way)
     }
 
     // The commit of an id among those that the house can reach.
     fn by_id(&self, book: &Book, id: &[u8]) -> Result<Option<usize>, AllocError> {
-        for k in marked(book.heap, &self.reached(book)?)?.iter() {
-            if &book.id(*k)[..] == id {
-                return Ok(Some(*k));
-            }
-        }
-        Ok(None)
+        let reached = self.reached(book)?;
+        Ok(reached.iter().copied().find(|k| &book.id(*k)[..] == id))
     }
 
-    fn forget(&mut self, heap: Global, name: &[u8]) -> Result<Turn, AllocError> {
-        let missing = ref_of(&self.branches, name).is_none();
-        let reply = refusal::of_forgetting(missing, self.here.as_slice() == name);
-        if reply != 0 {
-            return Ok(refused(heap, reply));
-        }
-        let mut kept = Vec::new(heap);
-        for one in self.branches.iter() {
-            if one.name.as_slice() != name {
-                kept.push(one.clone()?)?;
-            }
-        }
-        self.branches = kept;
-        Ok(done(heap))
+    fn forget(&mut self, name: &[u8]) -> Result<Shown, Trouble> {
+        let missing = !self.branches.contains_key(name);
+        refusal::of_forgetting(missing, self.here.as_slice() == name)?;
+        self.branches.remove(name);
+        Ok(Shown::nothing(self.heap()))
+    }
+
+    // The bytes at a path in work.
+    fn read_file(&self, path: &[u8]) -> Result<Shown, Trouble> {
+        let bytes = self.work.find(path).ok_or(Refusal::NotThere)?;
+        Ok(Shown::row(self.heap(), Form::Rows, bytes)?)
+    }
+
+    // The bytes at a path in the tree of a name.
+    fn show_file(&self, book: &Book, name: &[u8], path: &[u8]) -> Result<Shown, Trouble> {
+        let found = book.found(self.named(name), path);
+        let bytes = found.ok_or(Refusal::NotThere)?;
+        Ok(Shown::row(book.heap, Form::Rows, bytes)?)
     }
 
     // The first commit of the log that has a path as it is, and no parent that has it so.
-    fn who(&self, book: &Book, path: &[u8]) -> Result<Turn, AllocError> {
+    fn who(&self, book: &Book, path: &[u8]) -> Result<Shown, Trouble> {
         let held = book.found(self.tip(), path);
-        if held.is_none() {
-            return Ok(refused(book.heap, 3));
-        }
-        for k in book.log(self.tip())?.iter() {
-            if makes(book, *k, path, held) {
-                return one_row(book.heap, Form::Ids, &book.id(*k));
-            }
-        }
-        Ok(shown(Form::Ids, Vec::new(book.heap)))
+        held.ok_or(Refusal::NotThere)?;
+        let log = book.log(self.tip())?;
+        let maker = log.iter().copied().find(|k| makes(book, *k, path, held));
+        let mut made = Vec::new(book.heap);
+        made.extend(maker)?;
+        Ok(Shown::ids(book, made.as_slice())?)
     }
 
     // Branches of another house in place of those that were fetched from it before.
-    fn take_branches(
-        &mut self,
-        heap: Global,
-        from: u8,
-        branches: &Vec<Ref>,
-    ) -> Result<(), AllocError> {
-        let mut others = Vec::new(heap);
-        for one in self.others.iter() {
-            if one.name.first().copied() != Some(from) {
-                others.push(one.clone()?)?;
-            }
+    fn take_branches(&mut self, from: u8, branches: &Refs) -> Result<(), AllocError> {
+        self.others.retain(|name, _| name.first() != Some(&from));
+        for (branch, to) in branches.iter() {
+            let mut name = vec![in self.heap(); from]?;
+            name.extend_from_slice(branch.as_slice())?;
+            self.others.insert(name, *to)?;
         }
-        for one in branches.iter() {
-            let mut name = Vec::new(heap);
-            name.push(from)?;
-            name.extend_from_slice(one.name.as_slice())?;
-            others.push(Ref { name, to: one.to })?;
-        }
-        self.others = others;
         Ok(())
     }
 }
 
 fn marked_path(heap: Global, kind: u8, path: &[u8]) -> Result<Vec<u8>, AllocError> {
-    let mut row = Vec::new(heap);
-    row.push(kind)?;
+    let mut row = vec![in heap; kind]?;
     row.extend_from_slice(path)?;
     Ok(row)
 }
 
 // Whether a path is as it is from this commit on.
 fn makes(book: &Book, k: usize, path: &[u8], held: Option<&[u8]>) -> bool {
-    if !alike(book.found(Some(k), path), held) {
-        return false;
-    }
     let Some(commit) = book.get(k) else {
         return false;
     };
-    for parent in commit.parents.iter() {
-        if alike(book.found(Some(*parent), path), held) {
-            return false;
-        }
-    }
-    true
+    alike(commit.tree.find(path), held)
+        && !commit
+            .parents
+            .iter()
+            .any(|parent| alike(book.found(Some(*parent), path), held))
 }
 
 // Two trees put together, and the paths that clash.
 #[derive(Drop)]
 struct Joined {
     tree: Tree,
-    clashes: Vec<Vec<u8>>,
+    clashes: BTreeSet<Vec<u8>>,
 }
 
 // Whether a side differs at a path from one of the commits from which both came; where there is none, from nothing.
-fn changed(book: &Book, bases: &Vec<usize>, path: &[u8], row: Option<&[u8]>) -> bool {
+fn changed(book: &Book, bases: &[usize], path: &[u8], row: Option<&[u8]>) -> bool {
     if bases.is_empty() {
         return row.is_some();
     }
-    for base in bases.iter() {
-        if !alike(book.found(Some(*base), path), row) {
-            return true;
-        }
-    }
-    false
+    bases
+        .iter()
+        .any(|base| !alike(book.found(Some(*base), path), row))
 }
 
 fn join_trees(
     book: &Book,
-    bases: &Vec<usize>,
+    bases: &[usize],
     ours: usize,
     theirs: usize,
 ) -> Result<Joined, AllocError> {
@@ -526,20 +453,22 @@ fn join_trees(
     let base = book.tree_copy(Some(ours))?;
     let other = book.tree_copy(Some(theirs))?;
     let mut tree = base.clone()?;
-    let mut clashes = Vec::new(heap);
+    let mut clashes = BTreeSet::new(heap);
     for path in base.paths_of_both(heap, &other)?.iter() {
-        let a = base.find(path.as_slice());
-        let b = other.find(path.as_slice());
-        let here = meet(
+        let a = base.find(path);
+        let b = other.find(path);
+        match meet(
             a,
             b,
-            changed(book, bases, path.as_slice(), a),
-            changed(book, bases, path.as_slice(), b),
-        );
-        if here.clash {
-            clashes.push(path.clone()?)?;
+            changed(book, bases, path, a),
+            changed(book, bases, path, b),
+        ) {
+            Met::Joined(row) => tree.set(heap, path, row)?,
+            Met::Clash(row) => {
+                tree.set(heap, path, row)?;
+                clashes.insert(path.to_vec(heap)?)?;
+            }
         }
-        tree.set(heap, path.as_slice(), here.row)?;
     }
     Ok(Joined { tree, clashes })
 }
@@ -557,17 +486,13 @@ fn ours_alone(book: &Book, j: usize, k: usize) -> Result<Vec<usize>, AllocError>
     let mut mine = Vec::new(book.heap);
     let mut at = Some(k);
     for _ in 0..book.len() {
-        let Some(i) = at else {
+        let Some(i) = at.filter(|i| !theirs.contains(i)) else {
             break;
         };
-        if theirs.get(i).copied().unwrap_or(false) {
-            break;
-        }
         mine.push(i)?;
-        at = match book.get(i) {
-            Some(commit) => commit.parents.first().copied(),
-            None => None,
-        };
+        at = book
+            .get(i)
+            .and_then(|commit| commit.parents.first().copied());
     }
     mine.reverse();
     Ok(mine)
@@ -575,7 +500,6 @@ fn ours_alone(book: &Book, j: usize, k: usize) -> Result<Vec<usize>, AllocError>
 
 // One commit once more on top of another; none where it clashes, has two parents or makes too many files.
 fn carry_one(book: &mut Book, way: &mut Way, k: usize) -> Result<bool, AllocError> {
-    let heap = book.heap;
     let Some(commit) = book.get(k) else {
         return Ok(false);
     };
@@ -584,87 +508,30 @@ fn carry_one(book: &mut Book, way: &mut Way, k: usize) -> Result<bool, AllocErro
     }
     let stamp = commit.stamp;
     let words = commit.words.clone()?;
-    let bases = commit.parents.clone()?;
-    let joined = join_trees(book, &bases, way.at, k)?;
-    if !joined.clashes.is_empty() || joined.tree.len() > MOST_FILES {
+    let Joined { tree, clashes } = join_trees(book, commit.parents.as_slice(), way.at, k)?;
+    if !clashes.is_empty() || tree.len() > MOST_FILES {
         return Ok(false);
     }
-    if joined.tree == book.tree_copy(Some(way.at))? {
+    if tree == book.tree_copy(Some(way.at))? {
         return Ok(true);
     }
-    let mut parents = Vec::new(heap);
-    parents.push(way.at)?;
-    let made = book.note(parents, joined.tree, stamp, words)?;
-    way.at = made;
-    way.made.push(made)?;
+    let parents = vec![in book.heap; way.at]?;
+    way.at = book.note(parents, tree, stamp, words)?;
+    way.made.push(way.at)?;
     Ok(true)
 }
 
-fn carry_all(book: &mut Book, at: usize, mine: &Vec<usize>) -> Result<Option<Way>, AllocError> {
+fn carry_all(book: &mut Book, at: usize, mine: &[usize]) -> Result<Option<Way>, AllocError> {
     let mut way = Way {
         at,
         made: Vec::new(book.heap),
     };
-    for k in mine.iter() {
+    for k in mine {
         if !carry_one(book, &mut way, *k)? {
             return Ok(None);
         }
     }
     Ok(Some(way))
-}
-
-// A command that reads or changes what is in work.
-fn asked_of_work(x: &mut House, book: &Book, command: Command<'_>) -> Result<Turn, AllocError> {
-    let heap = book.heap;
-    match command {
-        Command::WriteFile(path, bytes) => x.write_file(heap, path, bytes),
-        Command::DropFile(path) => x.drop_file(heap, path),
-        Command::ReadFile(path) => row_or_none(heap, x.work.find(path)),
-        Command::Status => x.status(book),
-        Command::Settle(path) => x.settle(heap, path),
-        Command::Leave => x.leave(book),
-        _ => Ok(done(heap)),
-    }
-}
-
-// A command about names.
-fn asked_of_names(x: &mut House, book: &Book, command: Command<'_>) -> Result<Turn, AllocError> {
-    let heap = book.heap;
-    match command {
-        Command::Branch(name) => x.name_tip(heap, name, false),
-        Command::Tag(name) => x.name_tip(heap, name, true),
-        Command::Forget(name) => x.forget(heap, name),
-        Command::GoTo(name) => x.go_to(book, name),
-        Command::Join(name) => x.join(book, name),
-        _ => Ok(done(heap)),
-    }
-}
-
-// A command that reads commits.
-fn asked_of_book(x: &House, book: &Book, command: Command<'_>) -> Result<Turn, AllocError> {
-    match command {
-        Command::History => x.history(book),
-        Command::ShowFile(name, path) => row_or_none(book.heap, book.found(x.named(name), path)),
-        Command::Who(path) => x.who(book, path),
-        _ => Ok(done(book.heap)),
-    }
-}
-
-fn asked(x: &mut House, book: &mut Book, command: Command<'_>) -> Result<Turn, AllocError> {
-    match command {
-        Command::Commit(stamp, words) => x.commit(book, stamp, words),
-        Command::MoveOnto(name) => x.move_onto(book, name),
-        Command::Carry(id) => x.carry(book, id),
-        Command::History | Command::ShowFile(..) | Command::Who(..) => asked_of_book(
-            x, book, command,
-        ),
-        Command::Branch(..)
-        | Command::Tag(..)
-        | Command::Forget(..)
-        | Command::GoTo(..)
-        | Command::Join(..) => { asked_of_names(x, book, command) }
-        _ => asked_of_work(x, book, command),
-    }
 }
 
 impl Plain {
@@ -680,63 +547,86 @@ impl Plain {
         })
     }
 
-    fn fetch(&self, x: &mut House, c: usize, from: u64) -> Result<Turn, AllocError> {
-        for (d, other) in self.houses.iter().enumerate() {
-            if d as u64 == from && d != c && from < 256 {
-                x.take_branches(self.heap, from as u8, &other.branches)?;
-                return Ok(done(self.heap));
-            }
-        }
-        Ok(refused(self.heap, 3))
-    }
-
-    fn copy_of(&self, c: usize) -> Result<Option<House>, AllocError> {
-        match self.houses.get(c) {
-            Some(house) => Ok(Some(house.clone()?)),
-            None => Ok(None),
-        }
+    fn fetch(&self, x: &mut House, c: usize, from: u64) -> Result<Shown, Trouble> {
+        let number = u8::try_from(from).map_err(|_| Refusal::NotThere)?;
+        let d = usize::from(number);
+        let other = self.houses.get(d).filter(|_| d != c);
+        let Some(other) = other else {
+            return Err(Trouble::Refused(Refusal::NotThere));
+        };
+        x.take_branches(number, &other.branches)?;
+        Ok(Shown::nothing(self.heap))
     }
 
     fn set_house(&mut self, c: usize, house: House) {
-        if c < self.houses.len() {
-            self.houses[c] = house;
+        if let Some(place) = self.houses.get_mut(c) {
+            *place = house;
         }
     }
 
-    fn turned(
-        &mut self,
-        x: &mut House,
-        c: usize,
-        command: Command<'_>,
-    ) -> Result<Turn, AllocError> {
+    // What the command does at house c, of which x is a copy that is changed; a refusal leaves both as they come.
+    fn turned(&mut self, x: &mut House, c: usize, command: Command<'_>) -> Result<Shown, Trouble>
+        ensures { self.new.houses ≡ self.old.houses }
+    {
         match command {
+            Command::WriteFile(path, bytes) => x.write_file(path, bytes),
+            Command::DropFile(path) => x.drop_file(path),
+            Command::Commit(stamp, words) => x.commit(&mut self.book, stamp, words),
+            Command::Branch(name) => x.branch(name),
+            Command::GoTo(name) => x.go_to(&self.book, name),
+            Command::History => x.history(&self.book),
+            Command::ShowFile(name, path) => x.show_file(&self.book, name, path),
+            Command::Status => x.status(&self.book),
+            Command::ReadFile(path) => x.read_file(path),
+            Command::Join(name) => x.join(&self.book, name),
+            Command::Settle(path) => x.settle(path),
+            Command::Leave => x.leave(&self.book),
+            Command::MoveOnto(name) => x.move_onto(&mut self.book, name),
+            Command::Carry(id) => x.carry(&mut self.book, id),
+            Command::Forget(name) => x.forget(name),
+            Command::Tag(name) => x.tag(name),
+            Command::Who(path) => x.who(&self.book, path),
+            Command::Sweep => Ok(Shown::nothing(self.heap)),
             Command::Fetch(from) => self.fetch(x, c, from),
-            _ => asked(x, &mut self.book, command),
         }
     }
 
     // What the command does at a house, which is changed; a refusal changes nothing.
-    pub fn turn(&mut self, c: usize, command: Command<'_>) -> Result<Turn, AllocError> {
-        let noted = self.book.len();
-        let Some(mut x) = self.copy_of(c)? else {
-            return Ok(refused(self.heap, 3));
+    pub fn turn(
+        &mut self,
+        c: usize,
+        command: Command<'_>,
+    ) -> Result<Result<Shown, Refusal>, AllocError>
+        ensures refused { IfOk result (λ r. OnErr r (self.new.houses ≡ self.old.houses)) }
+        ensures err { OnErr result (self.new.houses ≡ self.old.houses) }
+    {
+        let Some(house) = self.houses.get(c) else {
+            return Ok(Err(Refusal::NotThere));
         };
-        let turn = self.turned(&mut x, c, command)?;
-        if turn.reply == 0 {
-            self.set_house(c, x);
-        } else {
-            self.book.commits.truncate(noted);
+        let mut x = house.clone()?;
+        let noted = self.book.len();
+        match self.turned(&mut x, c, command) {
+            Ok(shown) => {
+                self.set_house(c, x);
+                Ok(Ok(shown))
+            }
+            Err(trouble) => {
+                self.book.commits.truncate(noted);
+                match trouble {
+                    Trouble::Memory(error) => Err(error),
+                    Trouble::Refused(refusal) => Ok(Err(refusal)),
+                }
+            }
         }
-        Ok(turn)
     }
 
     // What a turn at a house may change.
     pub fn past(&self, c: usize) -> Result<Option<Past>, AllocError> {
-        match self.copy_of(c)? {
-            Some(before) => Ok(Some(Past {
+        match self.houses.get(c) {
+            Some(house) => Ok(Some(Past {
                 house: c,
                 noted: self.book.len(),
-                before,
+                before: house.clone()?,
             })),
             None => Ok(None),
         }

@@ -1,44 +1,31 @@
 // Files by rising path, and how two trees are put together.
+ghost use Rattle.std.specs.BTreeMap.{btree_map_len};
 ghost use Rattle.std.specs.Prelude.{◌≡◌};
-ghost use Rattle.plain.specs.Sides.{Meets, rows};
+ghost use Rattle.plain.specs.Sides.{Meets, is_clash, left, rows};
 ghost use Rattle.trees.specs.Tree.{alike};
 
 use std::alloc::{AllocError, Global};
+use std::collections::{BTreeMap, BTreeSet};
 
-#[derive(Clone, PartialEq, Drop)]
-pub struct File {
-    pub path: Vec<u8>,
-    pub bytes: Vec<u8>,
-}
-
+// The bytes at each path.
 #[derive(Clone, PartialEq, Drop)]
 pub struct Tree {
-    pub files: Vec<File>,
-}
-
-// Where a path stands, or would stand.
-#[derive(Clone, Copy)]
-struct Place {
-    at: usize,
-    there: bool,
+    pub files: BTreeMap<Vec<u8>, Vec<u8>>,
 }
 
 // What joining leaves at a path.
 #[derive(Clone, Copy)]
-pub struct Met<'a> {
-    pub clash: bool,
-    pub row: Option<&'a [u8]>,
+pub enum Met<'a> {
+    Joined(Option<&'a [u8]>),
+    // ours stands
+    Clash(Option<&'a [u8]>),
 }
 
 // Whether two sides have the same at a path: nothing, or the same bytes.
 pub fn alike(here: Option<&[u8]>, there: Option<&[u8]>) -> bool
     ensures { result ≡ alike (rows here.entry) (rows there.entry) }
 {
-    match (here, there) {
-        (None, None) => true,
-        (Some(a), Some(b)) => a == b,
-        _ => false,
-    }
+    here == there
 }
 
 // What is at a path where ours and theirs are put together; at a clash ours stands.
@@ -48,87 +35,52 @@ pub fn meet<'a>(
     ours_changed: bool,
     theirs_changed: bool,
 ) -> Met<'a>
-    ensures { Meets (rows ours.entry) (rows theirs.entry) ours_changed theirs_changed result.clash (rows result.row) }
+    ensures { Meets (rows ours.entry) (rows theirs.entry) ours_changed theirs_changed (is_clash result) (left result) }
 {
     if alike(ours, theirs) {
-        return Met {
-            clash: false,
-            row: ours,
-        };
+        return Met::Joined(ours);
     }
-    if ours_changed {
-        return Met {
-            clash: theirs_changed,
-            row: ours,
-        };
-    }
-    Met {
-        clash: false,
-        row: theirs,
+    match (ours_changed, theirs_changed) {
+        (true, true) => Met::Clash(ours),
+        (true, false) => Met::Joined(ours),
+        (false, _) => Met::Joined(theirs),
     }
 }
 
 impl Tree {
     pub fn new(heap: Global) -> Tree {
         Tree {
-            files: Vec::new(heap),
+            files: BTreeMap::new(heap),
         }
     }
 
-    pub fn len(&self) -> usize {
+    pub fn len(&self) -> usize
+        ensures { result ≡ btree_map_len self.now.files }
+    {
         self.files.len()
     }
 
-    fn place(&self, path: &[u8]) -> Place {
-        for (at, file) in self.files.iter().enumerate() {
-            let row = file.path.as_slice();
-            if row == path {
-                return Place { at, there: true };
-            }
-            if path < row {
-                return Place { at, there: false };
-            }
-        }
-        Place {
-            at: self.files.len(),
-            there: false,
-        }
+    pub fn is_empty(&self) -> bool {
+        self.files.is_empty()
     }
 
     pub fn find(&self, path: &[u8]) -> Option<&[u8]> {
-        for file in self.files.iter() {
-            if file.path.as_slice() == path {
-                return Some(file.bytes.as_slice());
-            }
-        }
-        None
+        self.files.get(path).map(|bytes| bytes.as_slice())
     }
 
-    pub fn put(&mut self, heap: Global, path: &[u8], bytes: &[u8]) -> Result<(), AllocError> {
-        let file = File {
-            path: path.to_vec(heap)?,
-            bytes: bytes.to_vec(heap)?,
-        };
-        let Place { at, there } = self.place(path);
-        if there && at < self.files.len() {
-            self.files[at] = file;
-        } else if at <= self.files.len() {
-            self.files.insert(at, file)?;
-        }
+    pub fn put(&mut self, path: Vec<u8>, bytes: Vec<u8>) -> Result<(), AllocError> {
+        self.files.insert(path, bytes)?;
         Ok(())
     }
 
     pub fn remove(&mut self, path: &[u8]) {
-        let Place { at, there } = self.place(path);
-        if there && at < self.files.len() {
-            let _ = self.files.remove(at);
-        }
+        let _ = self.files.remove(path);
     }
 
     // Sets what is at a path: bytes, or nothing.
     pub fn set(&mut self, heap: Global, path: &[u8], row: Option<&[u8]>) -> Result<(), AllocError> {
         match row {
-            Some(bytes) => self.put(heap, path, bytes),
+            Some(bytes) => self.put(path.to_vec(heap)?, bytes.to_vec(heap)?),
             None => {
                 self.remove(path);
                 Ok(())
@@ -136,16 +88,16 @@ impl Tree {
         }
     }
 
-    // The paths of two trees, rising, each once.
-    pub fn paths_of_both(&self, heap: Global, other: &Tree) -> Result<Vec<Vec<u8>>, AllocError> {
-        let mut both = self.clone()?;
-        for file in other.files.iter() {
-            both.put(heap, file.path.as_slice(), b"")?;
-        }
-        let mut paths = Vec::new(heap);
-        for file in both.files.iter() {
-            paths.push(file.path.clone()?)?;
-        }
-        Ok(paths)
+    // The paths of two trees.
+    pub fn paths_of_both<'a>(
+        &'a self,
+        heap: Global,
+        other: &'a Tree,
+    ) -> Result<BTreeSet<&'a [u8]>, AllocError> {
+        self.files
+            .keys()
+            .chain(other.files.keys())
+            .map(|path| path.as_slice())
+            .collect(heap)
     }
 }

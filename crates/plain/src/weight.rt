@@ -1,86 +1,78 @@
 // How much a house has to keep, and how much it lacks of another, in bytes.
-use crate::book::Book;
+use crate::book::{Book, Commit};
 use crate::houses::{House, Plain};
 use crate::tree::Tree;
-use std::alloc::AllocError;
+use std::alloc::{AllocError, Global};
+use std::collections::BTreeSet;
 
-fn plus(total: u64, fixed: u64, more: usize) -> u64 {
-    total.saturating_add(fixed).saturating_add(more as u64)
+// What was weighed so far; files that were seen weigh nothing more.
+#[derive(Drop)]
+struct Scales<'a> {
+    seen: BTreeSet<&'a [u8]>,
+    total: u64,
 }
 
-fn of_tree(tree: &Tree) -> u64 {
-    let mut total = 0;
-    for file in tree.files.iter() {
-        total = plus(total, 64, file.path.len());
-    }
-    total
-}
-
-// The files of a tree that were not seen before, which are seen then.
-fn of_new_files<'a>(tree: &'a Tree, seen: &mut Vec<&'a [u8]>) -> Result<u64, AllocError> {
-    let mut total = 0;
-    for file in tree.files.iter() {
-        let row = file.bytes.as_slice();
-        if !was_seen(seen, row) {
-            seen.push(row)?;
-            total = plus(total, 64, row.len());
+impl<'a> Scales<'a> {
+    fn new(heap: Global) -> Scales<'a> {
+        Scales {
+            seen: BTreeSet::new(heap),
+            total: 0,
         }
     }
-    Ok(total)
-}
 
-fn was_seen(seen: &Vec<&[u8]>, row: &[u8]) -> bool {
-    for one in seen.iter() {
-        if *one == row {
-            return true;
-        }
+    fn add(&mut self, fixed: u64, more: usize) {
+        self.total = self.total.saturating_add(fixed).saturating_add(more as u64);
     }
-    false
+
+    // The lines of a tree, and its files.
+    fn tree(&mut self, tree: &'a Tree) -> Result<(), AllocError> {
+        for (path, bytes) in tree.files.iter() {
+            self.add(64, path.len());
+            if self.seen.insert(bytes.as_slice())? {
+                self.add(64, bytes.len());
+            }
+        }
+        Ok(())
+    }
+
+    fn commit(&mut self, commit: &'a Commit) -> Result<(), AllocError> {
+        self.add(256, commit.words.len());
+        self.tree(&commit.tree)
+    }
 }
 
 // Each different file once, each commit, each line of its tree; the same for what is in work; and the names.
-pub fn of_house<'a>(book: &'a Book, x: &'a House) -> Result<u64, AllocError> {
-    let marks = x.reached(book)?;
-    let mut seen = Vec::new(book.heap);
-    let mut total = of_new_files(&x.work, &mut seen)?.saturating_add(of_tree(&x.work));
-    for (there, commit) in marks.iter().zip(book.commits.iter()) {
-        if *there {
-            total = plus(total, 256, commit.words.len());
-            total = total.saturating_add(of_tree(&commit.tree));
-            total = total.saturating_add(of_new_files(&commit.tree, &mut seen)?);
+pub fn of_house(book: &Book, x: &House) -> Result<u64, AllocError> {
+    let mut scales = Scales::new(book.heap);
+    scales.tree(&x.work)?;
+    for k in x.reached(book)?.iter() {
+        if let Some(commit) = book.get(*k) {
+            scales.commit(commit)?;
         }
     }
-    let names = x.all_refs(book.heap)?.len() as u64;
-    Ok(total.saturating_add(names.saturating_mul(128)))
+    let names = x.all_refs()?.len() as u64;
+    Ok(scales.total.saturating_add(names.saturating_mul(128)))
 }
 
-fn count(marks: &Vec<bool>) -> u64 {
-    let mut n: u64 = 0;
-    for there in marks.iter() {
-        if *there {
-            n = n.saturating_add(1);
+// What a house that reaches ours lacks of one that reaches theirs.
+fn lacking(
+    book: &Book,
+    ours: &BTreeSet<usize>,
+    theirs: &BTreeSet<usize>,
+) -> Result<u64, AllocError> {
+    let mut scales = Scales::new(book.heap);
+    for k in ours.iter() {
+        if let Some(commit) = book.get(*k) {
+            scales.tree(&commit.tree)?;
         }
     }
-    n
-}
-
-// What house x lacks of house y.
-fn lacking(book: &Book, ours: &Vec<bool>, theirs: &Vec<bool>) -> Result<u64, AllocError> {
-    let mut seen = Vec::new(book.heap);
-    for (there, commit) in ours.iter().zip(book.commits.iter()) {
-        if *there {
-            let _ = of_new_files(&commit.tree, &mut seen)?;
+    scales.total = 0;
+    for k in theirs.difference(ours) {
+        if let Some(commit) = book.get(*k) {
+            scales.commit(commit)?;
         }
     }
-    let mut total = 0;
-    for ((has, wanted), commit) in ours.iter().zip(theirs.iter()).zip(book.commits.iter()) {
-        if *wanted && !*has {
-            total = plus(total, 256, commit.words.len());
-            total = total.saturating_add(of_tree(&commit.tree));
-            total = total.saturating_add(of_new_files(&commit.tree, &mut seen)?);
-        }
-    }
-    Ok(total)
+    Ok(scales.total)
 }
 
 // How many letters a line must carry for house c to fetch from house d.
@@ -91,7 +83,7 @@ pub fn letters(plain: &Plain, c: usize, d: usize) -> Result<u64, AllocError> {
     let ours = x.reached(&plain.book)?;
     let theirs = y.reached(&plain.book)?;
     let lacks = lacking(&plain.book, &ours, &theirs)?;
-    let known = count(&ours).saturating_add(count(&theirs));
+    let known = (ours.len() as u64).saturating_add(theirs.len() as u64);
     let named = known.saturating_add(y.branches.len() as u64);
     Ok((lacks / 1024).saturating_add(16).saturating_add(named / 16))
 }

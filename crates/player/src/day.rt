@@ -1,7 +1,8 @@
 // A day: how many houses there are, how many pages each has, and what happens.
-use crate::device::Left;
-use crate::text::{cut_word, number_of, put_number, put_said, said};
+use device::Left;
+use crate::text::{Said, cut_word, number_of, read_said};
 use std::alloc::{AllocError, Global};
+use std::fmt;
 
 // More letters than any command sends.
 pub const LONG_LINE: u64 = 1000000;
@@ -43,13 +44,11 @@ struct Head {
     stop: Option<Stop>,
 }
 
-fn outcomes(heap: Global, digits: &[u8]) -> Result<Option<Vec<Left>>, AllocError> {
+fn outcomes(heap: Global, digits: &str) -> Result<Option<Vec<Left>>, AllocError> {
     let mut left = Vec::new(heap);
-    for b in digits.iter() {
-        match *b {
-            b'0' => left.push(Left::Nothing)?,
-            b'1' => left.push(Left::All)?,
-            b'2' => left.push(Left::FirstHalf)?,
+    for digit in digits.as_bytes() {
+        match *digit {
+            b'0'..=b'2' => left.push(Left::from(u64::from(*digit - b'0')))?,
             _ => return Ok(None),
         }
     }
@@ -57,7 +56,7 @@ fn outcomes(heap: Global, digits: &[u8]) -> Result<Option<Vec<Left>>, AllocError
 }
 
 // `stops after N OUTCOMES`, behind `stops`.
-fn stop_of(heap: Global, rest: &[u8]) -> Result<Option<Stop>, AllocError> {
+fn stop_of(heap: Global, rest: &str) -> Result<Option<Stop>, AllocError> {
     let (_, rest) = cut_word(rest);
     let (count, digits) = cut_word(rest);
     let (Some(acts), Some(left)) = (number_of(count), outcomes(heap, digits)?) else {
@@ -67,56 +66,44 @@ fn stop_of(heap: Global, rest: &[u8]) -> Result<Option<Stop>, AllocError> {
 }
 
 // `HOUSE`, `HOUSE line LETTERS`, and either with `stops after N OUTCOMES`.
-fn head_of(heap: Global, text: &[u8]) -> Result<Option<Head>, AllocError> {
+fn head_of(heap: Global, text: &str) -> Result<Option<Head>, AllocError> {
     let (house, rest) = cut_word(text);
     let Some(number) = number_of(house) else {
         return Ok(None);
     };
-    let mut head = Head {
-        house: number as usize,
-        letters: LONG_LINE,
-        stop: None,
-    };
-    let (word, more) = cut_word(rest);
+    let mut letters = LONG_LINE;
     let mut tail = rest;
-    if word == b"line".as_slice() {
+    if let ("line", more) = cut_word(rest) {
         let (count, behind) = cut_word(more);
-        head.letters = number_of(count).unwrap_or(0);
+        letters = number_of(count).unwrap_or(0);
         tail = behind;
     }
-    let (word, more) = cut_word(tail);
-    if word == b"stops".as_slice() {
-        head.stop = stop_of(heap, more)?;
-    }
-    Ok(Some(head))
+    let stop = match cut_word(tail) {
+        ("stops", more) => stop_of(heap, more)?,
+        _ => None,
+    };
+    Ok(Some(Head {
+        house: number as usize,
+        letters,
+        stop,
+    }))
 }
 
-// What stands before a colon and a space, and behind them.
-fn cut_colon(line: &[u8]) -> Option<(&[u8], &[u8])> {
-    for i in 0..line.len() {
-        if i + 1 < line.len() && line[i] == b':' && line[i + 1] == b' ' {
-            return Some((&line[0..i], &line[i + 2..line.len()]));
-        }
-    }
-    None
-}
-
-fn item_of(heap: Global, line: &[u8]) -> Result<Option<Item>, AllocError> {
-    let (word, rest) = cut_word(line);
-    if word == b"power".as_slice() {
-        return match head_of(heap, rest)? {
-            Some(Head { house, stop, .. }) => Ok(Some(Item {
-                house,
-                what: What::Power,
-                stop,
-            })),
-            None => Ok(None),
+fn item_of(heap: Global, line: &str) -> Result<Option<Item>, AllocError> {
+    if let ("power", rest) = cut_word(line) {
+        let Some(head) = head_of(heap, rest)? else {
+            return Ok(None);
         };
+        return Ok(Some(Item {
+            house: head.house,
+            what: What::Power,
+            stop: head.stop,
+        }));
     }
-    let Some((front, behind)) = cut_colon(line) else {
+    let Some((front, behind)) = line.split_once(": ") else {
         return Ok(None);
     };
-    let (Some(head), Some(text)) = (head_of(heap, front)?, said(heap, behind)?) else {
+    let (Some(head), Some(text)) = (head_of(heap, front)?, read_said(heap, behind)?) else {
         return Ok(None);
     };
     Ok(Some(Item {
@@ -126,44 +113,36 @@ fn item_of(heap: Global, line: &[u8]) -> Result<Option<Item>, AllocError> {
     }))
 }
 
-fn put_left(out: &mut String, left: &Vec<Left>) -> Result<(), AllocError> {
-    for one in left.iter() {
-        out.push(match one {
-            Left::Nothing => '0',
-            Left::All => '1',
-            Left::FirstHalf => '2',
-        })?;
+impl fmt::Display for Stop {
+    fn fmt<W: fmt::Write>(&self, f: &mut fmt::Formatter<W>) -> fmt::Result {
+        write!(f, " stops after {} ", self.acts)?;
+        for left in self.left.iter() {
+            write!(f, "{left}")?;
+        }
+        Ok(())
     }
-    Ok(())
-}
-
-fn put_stop(heap: Global, out: &mut String, stop: &Stop) -> Result<(), AllocError> {
-    out.push_str(" stops after ")?;
-    put_number(heap, out, stop.acts)?;
-    out.push_str(" ")?;
-    put_left(out, &stop.left)
 }
 
 // An item as a line of a day.
-pub fn put_item(heap: Global, out: &mut String, item: &Item) -> Result<(), AllocError> {
-    if let What::Power = &item.what {
-        out.push_str("power ")?;
-    }
-    put_number(heap, out, item.house as u64)?;
-    if let What::Said(_, letters) = &item.what {
-        if *letters != LONG_LINE {
-            out.push_str(" line ")?;
-            put_number(heap, out, *letters)?;
+impl fmt::Display for Item {
+    fn fmt<W: fmt::Write>(&self, f: &mut fmt::Formatter<W>) -> fmt::Result {
+        if let What::Power = &self.what {
+            f.write_str("power ")?;
         }
+        write!(f, "{}", self.house)?;
+        if let What::Said(_, letters) = &self.what {
+            if *letters != LONG_LINE {
+                write!(f, " line {letters}")?;
+            }
+        }
+        if let Some(stop) = &self.stop {
+            write!(f, "{stop}")?;
+        }
+        if let What::Said(text, _) = &self.what {
+            write!(f, ": {}", Said(text.as_slice()))?;
+        }
+        Ok(())
     }
-    if let Some(stop) = &item.stop {
-        put_stop(heap, out, stop)?;
-    }
-    if let What::Said(text, _) = &item.what {
-        out.push_str(": ")?;
-        put_said(heap, out, text.as_slice())?;
-    }
-    Ok(())
 }
 
 impl Day {
@@ -177,16 +156,16 @@ impl Day {
     }
 
     // Takes in a line; false where it is none of a day.
-    fn take_line(&mut self, heap: Global, line: &[u8]) -> Result<bool, AllocError> {
+    fn take_line(&mut self, heap: Global, line: &str) -> Result<bool, AllocError> {
         let (word, rest) = cut_word(line);
-        if word.is_empty() || word.first().copied() == Some(b'#') {
+        if word.is_empty() || word.starts_with('#') {
             return Ok(true);
         }
-        if word == b"houses".as_slice() || word == b"pages".as_slice() {
+        if word == "houses" || word == "pages" {
             let Some(n) = number_of(rest) else {
                 return Ok(false);
             };
-            if word == b"houses".as_slice() {
+            if word == "houses" {
                 self.houses = n as usize;
             } else {
                 self.pages = n as usize;
@@ -206,7 +185,7 @@ impl Day {
     pub fn read(heap: Global, text: &str) -> Result<Day, AllocError> {
         let mut day = Day::new(heap);
         for line in text.lines() {
-            if !day.take_line(heap, line.as_bytes())? {
+            if !day.take_line(heap, line)? {
                 day.bad_lines = day.bad_lines.saturating_add(1);
             }
         }

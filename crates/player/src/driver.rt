@@ -1,108 +1,189 @@
 // A house run act by act beside its device and, for a fetch, another house.
-use crate::device::{Device, Left};
+use device::{Device, Left, Page};
 use crate::engine;
-use crate::engine::Kind;
-use pages::bytes::in_eight;
-use pages::told::Told;
+use crate::text::Spaced;
+use commands::Refusal;
+use pages::told::{Event, Told};
 use std::alloc::{AllocError, Global};
+use std::fmt;
 
 const MEMORY: usize = 262144;
 
 const OUT: usize = 131072;
-
-// How a command stands that has not ended, and one that did what no house may do.
-pub const RUNNING: u64 = 1000;
-
-pub const FAULT: u64 = 1001;
 
 // Acts that one who was written to has for its reply, and that are given to a command.
 const REPLY_ACTS: u64 = 16777216;
 
 pub const MOST_ACTS: u64 = 1 << 32;
 
+// How a command stands.
+#[derive(Clone, Copy, Debug, PartialEq, Eq)]
+pub enum End {
+    Running,
+    Done,
+    Refused(Refusal),
+    // the house did what no house may do
+    Fault,
+}
+
 // How a command ended, and what it showed.
 #[derive(Clone, PartialEq, Drop)]
 pub struct Answer {
-    pub end: u64,
+    pub end: End,
     pub rows: Vec<Vec<u8>>,
 }
 
+// A house's pages, and its memory where it has power.
 #[derive(Drop)]
 pub struct World {
     pub device: Device,
-    pub memory: Vec<u64>,
-    pub up: bool,
+    memory: Option<Vec<u64>>,
+}
+
+// A house at work, and another one that it may write to, with its number.
+#[derive(Drop)]
+pub struct Pair {
+    pub here: World,
+    pub there: Option<(usize, World)>,
+}
+
+// What a house is told next.
+#[derive(Drop)]
+enum Next {
+    On {
+        house: usize,
+        houses: usize,
+        pages: usize,
+    },
+    Said(Vec<u8>),
+    Page(Option<Page>),
+    GoOn,
+    Heard(Vec<u8>),
+    Lost,
 }
 
 // A command, or the coming of power, on its way: what the house is told next, what the line still carries, and what was shown.
 #[derive(Drop)]
 pub struct Run {
-    kind: Kind,
-    bytes: Vec<u8>,
+    next: Next,
     letters: u64,
     out: Vec<u8>,
     showed: Vec<Vec<u8>>,
-    pub end: u64,
-    // whether the last act changed what the device keeps or what waits
-    pub touched: bool,
-    // whether nothing was done yet
-    pub is_new: bool,
+    pub end: End,
 }
 
-// The front of a row.
-fn front(row: &[u8], count: u64) -> &[u8] {
-    let count = count as usize;
-    if count <= row.len() {
-        &row[0..count]
-    } else {
-        row
+impl fmt::Display for End {
+    fn fmt<W: fmt::Write>(&self, f: &mut fmt::Formatter<W>) -> fmt::Result {
+        match self {
+            End::Running => f.write_str("1000"),
+            End::Done => f.write_str("0"),
+            End::Refused(refusal) => write!(f, "{}", refusal.number()),
+            End::Fault => f.write_str("1001"),
+        }
+    }
+}
+
+// How it ended, and a few of the rows.
+impl fmt::Display for Answer {
+    fn fmt<W: fmt::Write>(&self, f: &mut fmt::Formatter<W>) -> fmt::Result {
+        write!(f, "{}", self.end)?;
+        for row in self.rows.iter().take(20) {
+            write!(f, " [{}]", Spaced(row.as_slice()))?;
+        }
+        Ok(())
+    }
+}
+
+impl Answer {
+    // One that shows nothing.
+    pub fn bare(heap: Global, end: End) -> Answer {
+        Answer {
+            end,
+            rows: Vec::new(heap),
+        }
     }
 }
 
 impl World {
+    // A house that is to start on these pages.
+    pub fn on(device: Device) -> World {
+        World {
+            device,
+            memory: None,
+        }
+    }
+
     pub fn new(heap: Global, pages: usize) -> Result<World, AllocError> {
-        Ok(World {
-            device: Device::new(heap, pages)?,
-            memory: Vec::new(heap),
-            up: false,
-        })
+        Ok(World::on(Device::blank(heap, pages)?))
+    }
+
+    pub fn is_up(&self) -> bool {
+        self.memory.is_some()
     }
 
     // Memory is all 0 when power comes.
     pub fn wake(&mut self, heap: Global) -> Result<(), AllocError> {
-        self.memory = vec![in heap; 0u64; MEMORY]?;
-        self.up = true;
+        self.memory = Some(vec![in heap; 0u64; MEMORY]?);
         Ok(())
     }
 
-    // A house that is to start on these pages.
-    pub fn on(heap: Global, device: Device) -> World {
-        World {
-            device,
-            memory: Vec::new(heap),
-            up: false,
+    // Power is gone, and memory with it; of the waiting writes so much is left.
+    pub fn stop(&mut self, left: &[Left]) {
+        self.device.stop(left);
+        self.memory = None;
+    }
+
+    fn step(&mut self, event: Event<'_>, out: &mut [u8]) -> Told {
+        match &mut self.memory {
+            Some(memory) => engine::step(memory, event, out),
+            None => Told::No(0),
         }
     }
 
-    // Power is gone, and memory with it; of the waiting writes so much is left.
-    pub fn stop(&mut self, heap: Global, left: &[Left]) {
-        self.device.stop(left);
-        self.memory = Vec::new(heap);
-        self.up = false;
+    // Whether there is such a page, on which the write waits then.
+    fn write(&mut self, at: u64, bytes: &[u8]) -> Result<bool, AllocError> {
+        let at = at as usize;
+        let Some(page) = bytes.first_chunk::<512>() else {
+            return Ok(false);
+        };
+        if at >= self.device.pages() {
+            return Ok(false);
+        }
+        self.device.write(at, *page)?;
+        Ok(true)
+    }
+}
+
+impl Next {
+    fn event(&self) -> Event<'_> {
+        match self {
+            Next::On {
+                house,
+                houses,
+                pages,
+            } => Event::On {
+                house: *house as u64,
+                houses: *houses as u64,
+                pages: *pages as u64,
+            },
+            Next::Said(text) => Event::Said(text.as_slice()),
+            Next::Page(Some(page)) => Event::Page(page),
+            Next::Page(None) => Event::Page(&[]),
+            Next::GoOn => Event::Next,
+            Next::Heard(letter) => Event::Heard(letter.as_slice()),
+            Next::Lost => Event::Lost,
+        }
     }
 }
 
 impl Run {
-    fn new(heap: Global, kind: Kind, bytes: Vec<u8>, letters: u64) -> Result<Run, AllocError> {
+    fn new(heap: Global, next: Next, letters: u64) -> Result<Run, AllocError> {
         Ok(Run {
-            kind,
-            bytes,
+            next,
             letters,
             out: vec![in heap; 0u8; OUT]?,
             showed: Vec::new(heap),
-            end: RUNNING,
-            touched: false,
-            is_new: true,
+            end: End::Running,
         })
     }
 
@@ -113,16 +194,24 @@ impl Run {
         houses: usize,
         pages: usize,
     ) -> Result<Run, AllocError> {
-        let mut bytes = Vec::new(heap);
-        for n in [house, houses, pages] {
-            bytes.extend_from_slice(&in_eight(n as u64))?;
-        }
-        Run::new(heap, Kind::Power, bytes, 0)
+        Run::new(
+            heap,
+            Next::On {
+                house,
+                houses,
+                pages,
+            },
+            0,
+        )
     }
 
     // A command is said, with a line that carries so many letters.
     pub fn command(heap: Global, text: &[u8], letters: u64) -> Result<Run, AllocError> {
-        Run::new(heap, Kind::Command, text.to_vec(heap)?, letters)
+        Run::new(heap, Next::Said(text.to_vec(heap)?), letters)
+    }
+
+    fn heap(&self) -> Global {
+        *self.out.allocator()
     }
 
     // How it stands, and what was shown.
@@ -133,93 +222,92 @@ impl Run {
         })
     }
 
-    fn tell(&mut self, kind: Kind, bytes: Vec<u8>) {
-        self.kind = kind;
-        self.bytes = bytes;
-    }
-
-    fn go_on(&mut self, heap: Global) {
-        self.tell(Kind::GoOn, Vec::new(heap));
-    }
-
     fn step(&mut self, world: &mut World) -> Told {
-        engine::step(
-            &mut world.memory,
-            self.kind,
-            self.bytes.as_slice(),
-            &mut self.out,
-        )
+        world.step(self.next.event(), &mut self.out)
+    }
+
+    // The front of what the house laid out.
+    fn front(&self, count: u64) -> &[u8] {
+        let count = self.out.len().min(count as usize);
+        &self.out[0..count]
     }
 
     // One act of the house, with the house that it may write to.
-    pub fn act(
-        &mut self,
-        heap: Global,
-        here: &mut World,
-        peer: u64,
-        there: &mut World,
-    ) -> Result<(), AllocError> {
-        let told = self.step(here);
-        self.is_new = false;
-        self.touched = matches!(told, Told::Write(_) | Told::Flush);
+    fn act(&mut self, pair: &mut Pair) -> Result<Told, AllocError> {
+        let told = self.step(&mut pair.here);
         match told {
-            Told::Read(at) => {
-                let page = here.device.read(at as usize).to_vec(heap)?;
-                self.tell(Kind::Page, page);
-            }
+            Told::Read(at) => self.next = Next::Page(pair.here.device.read(at as usize)),
             Told::Write(at) => {
-                let page = front(self.out.as_slice(), 512);
-                if here.device.write(heap, at as usize, page)? {
-                    self.go_on(heap);
+                if pair.here.write(at, self.out.as_slice())? {
+                    self.next = Next::GoOn;
                 } else {
-                    self.end = FAULT;
+                    self.end = End::Fault;
                 }
             }
             Told::Flush => {
-                here.device.flush();
-                self.go_on(heap);
+                pair.here.device.flush();
+                self.next = Next::GoOn;
             }
             Told::Shows(count) => {
-                self.showed
-                    .push(front(self.out.as_slice(), count).to_vec(heap)?)?;
-                self.go_on(heap);
+                let row = self.front(count).to_vec(self.heap())?;
+                self.showed.push(row)?;
+                self.next = Next::GoOn;
             }
-            Told::Send(to) => self.send(heap, peer, there, to)?,
-            Told::Done => self.end = 0,
+            Told::Send(to) => self.send(pair, to)?,
+            Told::Done => self.end = End::Done,
             Told::No(number) => {
-                self.end = if number >= 1 && number < RUNNING {
-                    number
-                } else {
-                    FAULT
+                self.end = match Refusal::try_from(number) {
+                    Ok(refusal) => End::Refused(refusal),
+                    Err(_) => End::Fault,
                 };
+            }
+        }
+        Ok(told)
+    }
+
+    // Acts until the run has ended, or so many.
+    pub fn drive(&mut self, pair: &mut Pair, most: u64) -> Result<(), AllocError> {
+        for _ in 0..most {
+            if self.end != End::Running {
+                break;
+            }
+            self.act(pair)?;
+        }
+        Ok(())
+    }
+
+    // Acts up to one that changed the pages, or to the end.
+    pub fn drive_on(&mut self, pair: &mut Pair) -> Result<(), AllocError> {
+        for _ in 0..MOST_ACTS {
+            let told = self.act(pair)?;
+            if matches!(told, Told::Write(_) | Told::Flush) || self.end != End::Running {
+                break;
             }
         }
         Ok(())
     }
 
     // A letter to another house, and its reply; no line where that has no power, is another one, or the line carries no more.
-    fn send(
-        &mut self,
-        heap: Global,
-        peer: u64,
-        there: &mut World,
-        to: u64,
-    ) -> Result<(), AllocError> {
-        let letter = front(self.out.as_slice(), to % 4097).to_vec(heap)?;
-        if !there.up || to / 4097 != peer || self.letters == 0 {
-            self.tell(Kind::NoLine, Vec::new(heap));
-            return Ok(());
-        }
-        match reply_of(heap, there, letter)? {
-            Reply::Letter(bytes) => {
+    fn send(&mut self, pair: &mut Pair, to: u64) -> Result<(), AllocError> {
+        let letter = self.front(to % 4097).to_vec(self.heap())?;
+        let reply = match &mut pair.there {
+            Some((peer, there)) if there.is_up() && to / 4097 == *peer as u64 && self.letters > 0 =>
+                reply_of(there, letter)?,
+            _ => {
+                self.next = Next::Lost;
+                return Ok(());
+            }
+        };
+        match reply {
+            Reply::Letter(letter) => {
                 self.letters -= 1;
-                self.tell(Kind::Letter, bytes);
+                self.next = Next::Heard(letter);
             }
-            Reply::None => {
+            Reply::Gone => {
                 self.letters = 0;
-                self.tell(Kind::NoLine, Vec::new(heap));
+                self.next = Next::Lost;
             }
-            Reply::Cut => self.end = FAULT,
+            Reply::Cut => self.end = End::Fault,
         }
         Ok(())
     }
@@ -228,38 +316,32 @@ impl Run {
 #[derive(Drop)]
 enum Reply {
     Letter(Vec<u8>),
-    None,
+    // it did what is no reply
+    Gone,
     // its acts ran out
     Cut,
 }
 
 // One who was written to works on the letter until it replies.
-fn reply_of(heap: Global, world: &mut World, letter: Vec<u8>) -> Result<Reply, AllocError> {
-    let mut run = Run::new(heap, Kind::Letter, letter, 0)?;
+fn reply_of(world: &mut World, letter: Vec<u8>) -> Result<Reply, AllocError> {
+    let heap = *letter.allocator();
+    let mut run = Run::new(heap, Next::Heard(letter), 0)?;
     for _ in 0..REPLY_ACTS {
         match run.step(world) {
-            Told::Read(at) => {
-                let page = world.device.read(at as usize).to_vec(heap)?;
-                run.tell(Kind::Page, page);
-            }
+            Told::Read(at) => run.next = Next::Page(world.device.read(at as usize)),
             Told::Write(at) => {
-                let page = front(run.out.as_slice(), 512);
-                if !world.device.write(heap, at as usize, page)? {
-                    return Ok(Reply::None);
+                if !world.write(at, run.out.as_slice())? {
+                    return Ok(Reply::Gone);
                 }
-                run.go_on(heap);
+                run.next = Next::GoOn;
             }
             Told::Flush => {
                 world.device.flush();
-                run.go_on(heap);
+                run.next = Next::GoOn;
             }
-            Told::Send(to) => return letter_of(heap, run.out.as_slice(), to),
-            _ => return Ok(Reply::None),
+            Told::Send(to) => return Ok(Reply::Letter(run.front(to % 4097).to_vec(heap)?)),
+            _ => return Ok(Reply::Gone),
         }
     }
     Ok(Reply::Cut)
-}
-
-fn letter_of(heap: Global, out: &[u8], to: u64) -> Result<Reply, AllocError> {
-    Ok(Reply::Letter(front(out, to % 4097).to_vec(heap)?))
 }

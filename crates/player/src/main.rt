@@ -3,22 +3,21 @@
 
 mod bench;
 mod day;
-mod device;
 mod driver;
 mod engine;
 mod random;
 mod text;
 
 use anyhow::anyhow;
-use bench::{Bench, Counts};
-use commands::parse;
-use day::{Day, Item, What, put_item};
-use plain::houses::{Form, Plain, Turn};
+use bench::{Bench, Counts, Trouble};
+use commands::{Refusal, parse};
+use day::{Day, Item, What};
+use plain::houses::{Form, Plain, Shown};
 use plain::weight;
 use random::Dice;
-use std::alloc::{AllocError, Global};
-use std::{env, fs, io};
-use text::{put_escaped, put_hex, put_number};
+use std::alloc::AllocError;
+use std::{env, fmt, fs, io};
+use text::{Hex, Spaced};
 
 fn print_counts(rt: &HostRuntime, counts: &Counts) -> io::Result<()> {
     let days = counts.days;
@@ -27,60 +26,47 @@ fn print_counts(rt: &HostRuntime, counts: &Counts) -> io::Result<()> {
     let stops = counts.stops;
     let disagreed = counts.disagreed;
     println!(rt; "days {days}, commands {commands}, powers {powers}, stops {stops}")?;
-    let done = counts.ends[0];
+    let done = counts.done;
     print!(rt; "done {done}, refused")?;
-    for i in 1..11 {
-        let n = counts.ends[i];
-        print!(rt; " {i}:{n}")?;
+    for (number, n) in (1..11).zip(counts.refused.iter()) {
+        print!(rt; " {number}:{n}")?;
     }
     println!(rt; "")?;
     println!(rt; "{disagreed} days disagreed")
 }
 
-// An id in hexadecimal, and the words behind it.
-fn put_line(out: &mut String, row: &[u8]) -> Result<(), AllocError> {
-    let front = row.len().min(32);
-    put_hex(out, &row[0..front])?;
-    out.push_str(" ")?;
-    put_escaped(out, &row[front..row.len()], true)
+// A row of what a command shows.
+#[derive(Clone, Copy)]
+struct Row<'a> {
+    form: Form,
+    bytes: &'a [u8],
 }
 
-// A mark as a number, and the path behind it.
-fn put_mark(heap: Global, out: &mut String, row: &[u8]) -> Result<(), AllocError> {
-    let Some((kind, path)) = row.split_first() else {
-        return Ok(());
-    };
-    put_number(heap, out, u64::from(*kind))?;
-    out.push_str(" ")?;
-    put_escaped(out, path, true)
-}
-
-fn put_row(heap: Global, out: &mut String, form: Form, row: &[u8]) -> Result<(), AllocError> {
-    match form {
-        Form::Rows => put_escaped(out, row, true),
-        Form::Ids => put_hex(out, row),
-        Form::Lines => put_line(out, row),
-        Form::Marks => put_mark(heap, out, row),
+impl fmt::Display for Row<'_> {
+    fn fmt<W: fmt::Write>(&self, f: &mut fmt::Formatter<W>) -> fmt::Result {
+        match self.form {
+            Form::Rows => write!(f, "{}", Spaced(self.bytes)),
+            Form::Ids => write!(f, "{}", Hex(self.bytes)),
+            Form::Lines => {
+                let (id, words) = self.bytes.split_at(self.bytes.len().min(32));
+                write!(f, "{} {}", Hex(id), Spaced(words))
+            }
+            Form::Marks => match self.bytes.split_first() {
+                Some((mark, path)) => write!(f, "{mark} {}", Spaced(path)),
+                None => Ok(()),
+            },
+        }
     }
 }
 
-fn print_turn(rt: &HostRuntime, turn: &Turn) -> anyhow::Result<()> {
-    if turn.reply != 0 {
-        let number = turn.reply;
-        println!(rt; "    refused {number}")?;
+fn print_shown(rt: &HostRuntime, shown: &Shown) -> io::Result<()> {
+    for row in shown.rows.iter() {
+        let row = Row {
+            form: shown.form,
+            bytes: row.as_slice(),
+        };
+        println!(rt; "    {row}")?;
     }
-    for row in turn.shows.iter() {
-        let mut line = String::from_str(rt.alloc(), "    ")?;
-        put_row(rt.alloc(), &mut line, turn.form, row.as_slice())?;
-        println!(rt; "{line}")?;
-    }
-    Ok(())
-}
-
-fn print_item(rt: &HostRuntime, item: &Item) -> anyhow::Result<()> {
-    let mut line = String::new(rt.alloc());
-    put_item(rt.alloc(), &mut line, item)?;
-    println!(rt; "{line}")?;
     Ok(())
 }
 
@@ -95,18 +81,16 @@ fn read_day(rt: &HostRuntime, file: &str) -> anyhow::Result<Day> {
     Ok(day)
 }
 
-fn print_plain(
-    rt: &HostRuntime,
+// What a text comes to at a plain house.
+fn plain_turn(
     plain: &mut Plain,
     house: usize,
     text: &[u8],
-) -> anyhow::Result<()> {
-    let Some(command) = parse(text) else {
-        println!(rt; "    refused 1")?;
-        return Ok(());
-    };
-    let turn = plain.turn(house, command)?;
-    print_turn(rt, &turn)
+) -> Result<Result<Shown, Refusal>, AllocError> {
+    match parse(text) {
+        Some(command) => plain.turn(house, command),
+        None => Ok(Err(Refusal::NoCommand)),
+    }
 }
 
 fn print_kept(rt: &HostRuntime, plain: &Plain) -> anyhow::Result<()> {
@@ -123,79 +107,71 @@ fn play_plain(rt: &HostRuntime, file: &str) -> anyhow::Result<()> {
     let mut plain = Plain::new(rt.alloc(), day.houses)?;
     for item in day.items.iter() {
         if let What::Said(text, _) = &item.what {
-            print_item(rt, item)?;
-            print_plain(rt, &mut plain, item.house, text.as_slice())?;
+            println!(rt; "{item}")?;
+            match plain_turn(&mut plain, item.house, text.as_slice())? {
+                Ok(shown) => print_shown(rt, &shown)?,
+                Err(refusal) => println!(rt; "    {refusal}")?,
+            }
         }
     }
     print_kept(rt, &plain)
 }
 
-fn print_trouble(
+// Whether an item was played and the houses agree; where they do not, that is printed.
+fn agree(
     rt: &HostRuntime,
     whose: &str,
     i: usize,
     item: &Item,
-    trouble: &str,
-) -> anyhow::Result<()> {
-    let mut line = String::new(rt.alloc());
-    put_item(rt.alloc(), &mut line, item)?;
-    println!(rt; "{whose}, item {i}, {line}: {trouble}")?;
-    Ok(())
-}
-
-// One item of a day that was read, at the houses; with every stop where that is wanted.
-fn play_item(
-    bench: &mut Bench,
-    item: &Item,
-    stops: bool,
-    dice: &mut Dice,
-) -> Result<Option<String>, AllocError> {
-    match &item.what {
-        What::Said(text, letters) => {
-            if stops && item.stop.is_none() {
-                bench.every_stop(item.house, text.as_slice(), *letters, dice)
-            } else {
-                bench.play(item)
-            }
+    played: Result<(), Trouble>,
+) -> anyhow::Result<bool> {
+    match played {
+        Ok(()) => Ok(true),
+        Err(Trouble::Memory(error)) => Err(anyhow::Error::from(error)),
+        Err(Trouble::Differs(text)) => {
+            println!(rt; "{whose}, item {i}, {item}: {text}")?;
+            Ok(false)
         }
-        What::Power => bench.play(item),
     }
 }
 
 // Plays the items of a day; whether the houses agree.
-fn play_items(
+fn play_items<F: FnMut(&mut Bench, &Item) -> Result<(), Trouble>>(
     rt: &HostRuntime,
     bench: &mut Bench,
     file: &str,
     day: &Day,
-    stops: bool,
-) -> anyhow::Result<bool> {
-    let mut dice = Dice::new(1);
+    mut play: F,
+) -> anyhow::Result<bool>
+    requires { F.IsAlwaysCallable play }
+{
     for (i, item) in day.items.iter().enumerate() {
         if !bench.is_proper(item) {
-            print_trouble(
-                rt,
-                file,
-                i,
-                item,
-                "power comes where there is none, and a command is said where there is",
+            println!(rt;
+                "{file}, item {i}, {item}: power comes where there is none, and a command is said where there is"
             )?;
             return Ok(false);
         }
-        if let Some(text) = play_item(bench, item, stops, &mut dice)? {
-            print_trouble(rt, file, i, item, text.as_str())?;
+        if !agree(rt, file, i, item, play(bench, item))? {
             return Ok(false);
         }
     }
     Ok(true)
 }
 
-fn play_day(rt: &HostRuntime, file: &str, stops: bool) -> anyhow::Result<Counts> {
+// A day, of which each item is played so.
+fn play_day<F: FnMut(&mut Bench, &Item) -> Result<(), Trouble>>(
+    rt: &HostRuntime,
+    file: &str,
+    play: F,
+) -> anyhow::Result<Counts>
+    requires { F.IsAlwaysCallable play }
+{
     let day = read_day(rt, file)?;
     let mut bench = Bench::new(rt.alloc(), day.houses, day.pages)?;
-    let agree = play_items(rt, &mut bench, file, &day, stops)?;
+    let agree = play_items(rt, &mut bench, file, &day, play)?;
     bench.counts.days = 1;
-    bench.counts.disagreed = if agree { 0 } else { 1 };
+    bench.counts.disagreed = u64::from(!agree);
     Ok(bench.counts)
 }
 
@@ -214,173 +190,138 @@ fn setting(dice: &mut Dice) -> (usize, usize) {
     (houses, pages)
 }
 
-fn next_item(
-    heap: Global,
-    bench: &Bench,
-    dice: &mut Dice,
-    houses: usize,
-) -> Result<Item, AllocError> {
-    let house = dice.below(houses as u64) as usize;
-    random::item(heap, dice, &bench.plain, house, bench.is_up(house))
-}
-
-// One item of a random day; whether the houses agree.
-fn play_one(
+// The random day of a seed; each item is shown before it is played.
+fn play_random<F: FnMut(&Item) -> io::Result<()>>(
     rt: &HostRuntime,
-    bench: &mut Bench,
     seed: u64,
-    i: usize,
-    item: &Item,
-) -> anyhow::Result<bool> {
-    let Some(text) = bench.play(item)? else {
-        return Ok(true);
-    };
-    let whose = format!(in rt.alloc(); "seed {seed}")?;
-    print_trouble(rt, whose.as_str(), i, item, text.as_str())?;
-    Ok(false)
-}
-
-fn play_random(rt: &HostRuntime, seed: u64, print: bool) -> anyhow::Result<Counts> {
-    let mut dice = Dice::new(seed);
+    mut show: F,
+) -> anyhow::Result<Counts>
+    requires { F.IsAlwaysCallable show }
+{
+    let mut dice = Dice::new(rt.alloc(), seed);
     let (houses, pages) = setting(&mut dice);
     let mut bench = Bench::new(rt.alloc(), houses, pages)?;
-    if print {
-        println!(rt; "houses {houses}\npages {pages}")?;
-    }
-    let mut agree = true;
+    let whose = format!(in rt.alloc(); "seed {seed}")?;
+    let mut agrees = true;
     for i in 0..dice.below(80).saturating_add(20) as usize {
-        let item = next_item(rt.alloc(), &bench, &mut dice, houses)?;
-        if print {
-            print_item(rt, &item)?;
-        }
-        if agree {
-            agree = play_one(rt, &mut bench, seed, i, &item)?;
+        let house = dice.below(houses as u64) as usize;
+        let stop = dice.stop()?;
+        let what = if bench.is_up(house) {
+            dice.said(&bench.plain)?
+        } else {
+            What::Power
+        };
+        let item = Item { house, what, stop };
+        show(&item)?;
+        if agrees {
+            let played = bench.play(&item);
+            agrees = agree(rt, whose.as_str(), i, &item, played)?;
         }
     }
     bench.counts.days = 1;
-    bench.counts.disagreed = if agree { 0 } else { 1 };
+    bench.counts.disagreed = u64::from(!agrees);
     Ok(bench.counts)
 }
 
-fn add_counts(all: &mut Counts, more: Counts) {
-    all.days = all.days.saturating_add(more.days);
-    all.commands = all.commands.saturating_add(more.commands);
-    all.powers = all.powers.saturating_add(more.powers);
-    all.stops = all.stops.saturating_add(more.stops);
-    all.disagreed = all.disagreed.saturating_add(more.disagreed);
-    for i in 0..11 {
-        all.ends[i] = all.ends[i].saturating_add(more.ends[i]);
-    }
-}
-
-fn play_many(rt: &HostRuntime, seed: u64, days: u64, all: &mut Counts) -> anyhow::Result<()> {
+fn play_many(rt: &HostRuntime, seed: u64, days: u64) -> anyhow::Result<Counts> {
+    let mut all = Counts::default();
     for i in 0..days {
         if i % 100 == 99 {
             eprintln!(rt; "day {i} of {days}")?;
         }
-        add_counts(all, play_random(rt, seed.wrapping_add(i), false)?);
+        all += play_random(rt, seed.wrapping_add(i), |_| Ok(()))?;
     }
-    Ok(())
+    Ok(all)
+}
+
+// A random day that is played and written out.
+fn print_random(rt: &HostRuntime, seed: u64) -> anyhow::Result<Counts> {
+    let (houses, pages) = setting(&mut Dice::new(rt.alloc(), seed));
+    println!(rt; "houses {houses}\npages {pages}")?;
+    play_random(rt, seed, |item| println!(rt; "{item}"))
+}
+
+// What is asked for.
+#[derive(Clone, Copy)]
+enum Task<'a> {
+    Plain(&'a str),
+    Day(&'a str),
+    Stops(&'a str),
+    Random { seed: u64, days: u64 },
+    Text { seed: u64 },
 }
 
 fn number(text: &str) -> anyhow::Result<u64> {
-    match text::number_of(text.as_bytes()) {
-        Some(n) => Ok(n),
-        None => Err(anyhow!("no number")),
-    }
+    text::number_of(text).ok_or(anyhow!("no number"))
 }
 
-#[derive(Clone, Copy)]
-enum Mode {
-    Plain,
-    Whole,
-    Stops,
-    Random,
-    Text,
-    None,
-}
-
-fn mode_of(word: &str) -> Mode {
-    match word {
-        "plain" => Mode::Plain,
-        "day" => Mode::Whole,
-        "stops" => Mode::Stops,
-        "random" => Mode::Random,
-        "text" => Mode::Text,
-        _ => Mode::None,
-    }
-}
-
-fn run_text(rt: &HostRuntime, seed: &str) -> anyhow::Result<Counts> {
-    play_random(rt, number(seed)?, true)
-}
-
-fn run_random(rt: &HostRuntime, seed: &str, days: &str) -> anyhow::Result<Counts> {
-    let mut all = Counts::new();
-    play_many(rt, number(seed)?, number(days)?, &mut all)?;
-    Ok(all)
-}
-
-fn run_plain(rt: &HostRuntime, file: &str) -> anyhow::Result<Counts> {
-    play_plain(rt, file)?;
-    Ok(Counts::new())
-}
-
-// One mode, with the words behind it.
-fn run_one(rt: &HostRuntime, mode: Mode, first: &str, second: &str) -> anyhow::Result<Counts> {
-    match mode {
-        Mode::Plain => run_plain(rt, first),
-        Mode::Whole => play_day(rt, first, false),
-        Mode::Stops => play_day(rt, first, true),
-        Mode::Random => run_random(rt, first, second),
-        Mode::Text => run_text(rt, first),
-        Mode::None => Err(anyhow!(
-            "plain FILE, day FILE, stops FILE, random SEED DAYS or text SEED"
-        )),
-    }
-}
-
-fn size_of(mode: Mode) -> usize {
-    match mode {
-        Mode::Random => 3,
-        _ => 2,
-    }
-}
-
-// All that is asked for, one after the other.
-fn run_modes(rt: &HostRuntime, words: &Vec<String>) -> anyhow::Result<Counts> {
-    let mut all = Counts::new();
-    let mut at: usize = 0;
-    for _ in 0..words.len() {
-        if at < words.len() {
-            let mode = mode_of(word_at(words, at));
-            let first = word_at(words, at.saturating_add(1));
-            let second = word_at(words, at.saturating_add(2));
-            add_counts(&mut all, run_one(rt, mode, first, second)?);
-            at = at.saturating_add(size_of(mode));
-        }
-    }
-    Ok(all)
-}
-
-fn word_at(words: &Vec<String>, at: usize) -> &str {
+// A word, or none behind the last one.
+fn word_at(words: &[String], at: usize) -> &str {
     match words.get(at) {
         Some(word) => word.as_str(),
         None => "",
     }
 }
 
-fn words_of(rt: &HostRuntime) -> anyhow::Result<Vec<String>> {
+impl<'a> Task<'a> {
+    // The task at the front, and the words behind it.
+    fn first(words: &'a [String]) -> anyhow::Result<(Task<'a>, &'a [String])> {
+        let first = word_at(words, 1);
+        let (task, size) = match word_at(words, 0) {
+            "plain" => (Task::Plain(first), 2),
+            "day" => (Task::Day(first), 2),
+            "stops" => (Task::Stops(first), 2),
+            "random" => {
+                let seed = number(first)?;
+                let days = number(word_at(words, 2))?;
+                (Task::Random { seed, days }, 3)
+            }
+            "text" => {
+                let seed = number(first)?;
+                (Task::Text { seed }, 2)
+            }
+            _ => return Err(anyhow!(
+                "plain FILE, day FILE, stops FILE, random SEED DAYS or text SEED"
+            )),
+        };
+        Ok((task, words.get(size..).unwrap_or(&[])))
+    }
+
+    fn run(self, rt: &HostRuntime) -> anyhow::Result<Counts> {
+        match self {
+            Task::Plain(file) => {
+                play_plain(rt, file)?;
+                Ok(Counts::default())
+            }
+            Task::Day(file) => play_day(rt, file, |bench, item| bench.play(item)),
+            Task::Stops(file) => play_day(rt, file, |bench, item| bench.play_with_stops(item)),
+            Task::Random { seed, days } => play_many(rt, seed, days),
+            Task::Text { seed } => print_random(rt, seed),
+        }
+    }
+}
+
+// All that is asked for, one after the other.
+fn run_tasks(rt: &HostRuntime, words: &[String]) -> anyhow::Result<Counts> {
+    let mut all = Counts::default();
+    let mut rest = words;
+    for _ in 0..words.len() {
+        if rest.is_empty() {
+            break;
+        }
+        let (task, behind) = Task::first(rest)?;
+        all += task.run(rt)?;
+        rest = behind;
+    }
+    Ok(all)
+}
+
+fn run(rt: &HostRuntime) -> anyhow::Result<()> {
     let mut words = Vec::new(rt.alloc());
     for word in env::args(rt)?.skip(1) {
         words.push(word)?;
     }
-    Ok(words)
-}
-
-fn run(rt: &HostRuntime) -> anyhow::Result<()> {
-    let words = words_of(rt)?;
-    let all = run_modes(rt, &words)?;
+    let all = run_tasks(rt, words.as_slice())?;
     if all.days > 0 {
         print_counts(rt, &all)?;
     }
