@@ -29,15 +29,11 @@ fn put_row(out: &mut Vec<u8>, bytes: &[u8]) -> Result<(), AllocError> {
     out.extend_from_slice(bytes)
 }
 
-fn sum_of(bytes: &[u8]) -> [u8; 32] {
-    sum(bytes)
-}
-
 fn put_tree(out: &mut Vec<u8>, tree: &Tree) -> Result<(), AllocError> {
     out.extend_from_slice(&in_eight(tree.len() as u64))?;
     for (path, bytes) in tree.files.iter() {
         put_row(out, path.as_slice())?;
-        put_row(out, &sum_of(bytes.as_slice()))?;
+        put_row(out, &sum(bytes.as_slice()))?;
     }
     Ok(())
 }
@@ -129,7 +125,7 @@ impl Book {
             tree,
             stamp,
             words,
-            id: sum_of(spelled.as_slice()),
+            id: sum(spelled.as_slice()),
         })?;
         Ok(k)
     }

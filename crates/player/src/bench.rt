@@ -1,11 +1,11 @@
 // Houses that run, beside plain houses that are executed: items of a day are played at both, and their answers compared.
 use crate::day::{Item, Stop, What};
-use device::{Device, Left};
 use crate::driver::{Answer, End, MOST_ACTS, Pair, Run, World};
 use crate::engine::is_known;
 use crate::random::Dice;
 use crate::text::spelled;
 use commands::{Command, Refusal, parse};
+use device::{Device, Left};
 use pages::bytes::number;
 use plain::houses::{House, Past, Plain};
 use plain::tree::Tree;

@@ -1,6 +1,6 @@
 // A day: how many houses there are, how many pages each has, and what happens.
-use device::Left;
 use crate::text::{Said, cut_word, number_of, read_said};
+use device::Left;
 use std::alloc::{AllocError, Global};
 use std::fmt;
 

@@ -1,8 +1,8 @@
 // A house run act by act beside its device and, for a fetch, another house.
-use device::{Device, Left, Page};
 use crate::engine;
 use crate::text::Spaced;
 use commands::Refusal;
+use device::{Device, Left, Page};
 use pages::told::{Event, Told};
 use std::alloc::{AllocError, Global};
 use std::fmt;

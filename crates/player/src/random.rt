@@ -2,10 +2,10 @@
 ghost use Rattle.std.specs.Prelude.{◌<◌};
 
 use crate::day::{LONG_LINE, Stop, What};
-use device::Left;
 use crate::engine::KNOWN;
 use crate::text::spelled;
 use commands::Command;
+use device::Left;
 use plain::houses::Plain;
 use std::alloc::{AllocError, Global};
 
