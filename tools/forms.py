@@ -61,6 +61,8 @@ def functions(path, lines):
         while i < len(lines):
             line = lines[i]
             bare = line.strip()
+            if part is not function.body and line == ' ' * indent + '{}':
+                break
             if part is function.head and re.match(r'(requires|ensures)', bare):
                 part = function.clauses
             if part is not function.body and (line == ' ' * indent + '{' or

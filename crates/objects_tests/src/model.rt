@@ -67,6 +67,7 @@ impl Model {
     }
 
     // An object begins: its number. Its references and all else are pushed behind it.
+    // As it stands: a number for the kind, as on the tape; trials also look for kinds that nothing has.
     pub fn start(
         &mut self,
         kind: u64,
@@ -150,10 +151,8 @@ impl Model {
             return Ok(Vec::new(self.heap));
         };
         let mut words = object.words.clone()?;
-        for i in 0..object.references().len() {
-            if let Some(cell) = words.get_mut(i.saturating_add(2)) {
-                *cell = self.name(*cell);
-            }
+        for cell in words.iter_mut().skip(2).take(object.references().len()) {
+            *cell = self.name(*cell);
         }
         Ok(words)
     }

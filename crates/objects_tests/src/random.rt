@@ -14,6 +14,7 @@ impl Random {
     }
 
     // Xorshift.
+    // As it stands: `player` draws by another rule, and what each program prints hangs on its own.
     pub fn next(&mut self) -> u64 {
         let mut x = self.state;
         x ^= x << 13;
