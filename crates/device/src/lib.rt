@@ -156,6 +156,7 @@ impl Device {
     }
 
     // The same pages, and the same writes waiting.
+    // As it stands: no derived `Clone`, of which a clause knows only that each element is a clone.
     pub fn copied(&self) -> Result<Device, AllocError>
         ensures { IfOk result (λ d. d ≡ self.now) }
     {

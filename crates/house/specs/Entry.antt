@@ -34,7 +34,7 @@ TellSays memory ev out false r memory₁ out₁ = (r ≡ No 0) × (memory₁ ≡
 unfoldable pub tell_fits : (memory out : List ℕ) → Bool
 tell_fits memory out = length memory == length (own own_sum).start && nat_le 131072 (length out)
 
--- one step, told as a kind and some bytes: of kinds above 5 number 0 is told and nothing is changed
+-- one step, told as a kind and some bytes: for kinds above 5, other memories and shorter rows number 0 is told and nothing is changed
 unfoldable pub StepSays : (memory : List ℕ) (kind : ℕ) (bytes out : List ℕ) → Bool → Told → (memory₁ out₁ : List ℕ) → Type 0
 StepSays memory kind bytes out true r memory₁ out₁ =
     (memory₁ ≡ ((own own_sum).step memory (event_of kind bytes)).memory) × ActTold ((own own_sum).step memory (event_of kind bytes)).act r out out₁

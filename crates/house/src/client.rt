@@ -1,7 +1,10 @@
 // The house as a client of the tape.
+ghost use Rattle.std.specs.Prelude.{◌≡◌};
+ghost use Rattle.commands.specs.Refusal.{number_of};
 ghost use Rattle.house.specs.Client.{house_client};
+ghost use Rattle.pages.specs.declared.machine.Request.TheVariants.{Refuse};
 
-use commands::parse;
+use commands::{Refusal, parse};
 use pages::machine::{Client, Request};
 
 // What a house keeps in memory from one command to the next.
@@ -11,6 +14,14 @@ pub struct Registers {
     pub house: u64,
     pub houses: u64,
     pub pages: u64,
+}
+
+fn refuse(why: Refusal) -> Request
+    ensures { result ≡ Refuse (number_of why) }
+{
+    Request::Refuse {
+        number: why.number(),
+    }
 }
 
 impl Client for Registers {
@@ -43,12 +54,12 @@ impl Client for Registers {
 
     fn hear(&mut self, memory: &mut [u64], text: &[u8]) -> Request {
         let Some(_) = parse(text) else {
-            return Request::Refuse { number: 1 };
+            return refuse(Refusal::NoCommand);
         };
-        Request::Refuse { number: 2 }
+        refuse(Refusal::NotKnown)
     }
 
     fn resume(&mut self, memory: &mut [u64]) -> Request {
-        Request::Refuse { number: 2 }
+        refuse(Refusal::NotKnown)
     }
 }

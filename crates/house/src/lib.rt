@@ -18,8 +18,7 @@ use pages::told::{Event, Told};
 fn number_at(bytes: &[u8], at: usize) -> u64
     ensures { result ≡ from_bytes 0 (take 8 (drop at bytes.now)) }
 {
-    let at = at.min(bytes.len());
-    number(&bytes[at..bytes.len()])
+    number(bytes.get(at..).unwrap_or(&[]))
 }
 
 // What the world tells, by its kind.
@@ -50,6 +49,7 @@ pub fn tell(memory: &mut [u64], event: Event, out: &mut [u8]) -> Told
 }
 
 // The same step for a world that tells numbers: a kind, and some bytes.
+// As it stands: a number for the kind, since this is the step as the promise defines it; `tell` takes the event.
 pub fn step(memory: &mut [u64], kind: u64, bytes: &[u8], out: &mut [u8]) -> Told
     ensures { StepSays memory.old kind bytes.now out.old (step_fits memory.old kind bytes.now out.old) result memory.new out.new }
 {

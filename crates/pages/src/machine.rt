@@ -31,7 +31,7 @@ pub enum Request {
     Show { bytes: u64 },
     // The command has ended and is done.
     Done,
-    // The command has ended and is refused.
+    // The command has ended and is refused. 0 is no refusal: it is told where nothing fits.
     Refuse { number: u64 },
 }
 
@@ -99,7 +99,7 @@ fn serving_of(request: Request) -> Serving
         Request::Recall => Serving::Recalling,
         Request::Look { at, words } => Serving::Looking {
             at,
-            left: words.min(41_088),
+            left: words.min(BUFFER as u64),
             got: 0,
         },
         Request::Object { at, limit } => Serving::Opening { at, limit },
@@ -130,7 +130,7 @@ fn act_of(ring: u64, memory: &[u64], request: Request, out: &mut [u8]) -> Told
         }
         Request::Publish => Told::Flush,
         Request::Show { bytes } => {
-            let bytes = bytes.min(131_072);
+            let bytes = bytes.min(ROW as u64);
             put_bytes(&memory[0..16_384], bytes as usize, out);
             Told::Shows(bytes)
         }
@@ -146,7 +146,7 @@ fn take_words(at: u64, left: u64, got: u64, words: &[u64; 64], memory: &mut [u64
     ensures memory { memory.new ≡ over got (take (taken at left got) (drop (at % 64) words.now)) memory.old }
 {
     let from = at % 64;
-    let many = (64 - from).min(left.min(41_088u64.saturating_sub(got)));
+    let many = (64 - from).min(left.min((BUFFER as u64).saturating_sub(got)));
     if many > 0 {
         let to = got + many;
         let end = from + many;
@@ -179,7 +179,8 @@ impl Machine {
 }
 
 // A client, and the machine that serves it. Its memory and the row of bytes are lent to each step.
-// As it stands: a struct around these two would owe in each method that they stay the same loans, in place of the clause on their lengths that it saves.
+// As it stands: a struct around what is lent would owe in each method that it stays the same loan, in place of the clause on its length that it saves; and an
+// array in place of the row is a front of it, of which the clauses on the whole row would have to be shown again.
 #[derive(Drop)]
 pub struct Server<C> {
     pub machine: Machine,
@@ -236,7 +237,10 @@ impl<C: Client> Server<C> {
             Serving::Looking { at, left, got } => self.look_on(at, left, got, &words, memory, out),
             Serving::Opening { at, limit } => {
                 let header = words[(at % 64) as usize];
-                let wanted = (header % 4_294_967_296).min(limit).min(41_088).max(1);
+                let wanted = (header % 4_294_967_296)
+                    .min(limit)
+                    .min(BUFFER as u64)
+                    .max(1);
                 self.look_on(at, wanted, 0, &words, memory, out)
             }
             _ => self.machine.give_up(),

@@ -6,7 +6,7 @@ ghost use Rattle.pages.specs.Object.{heading as heading_of, kind_in, references_
 pub fn heading(kind: u16, references: u16, size: u32) -> u64
     ensures { result ≡ heading_of kind references size }
 {
-    size as u64 + 4_294_967_296 * references as u64 + 281_474_976_710_656 * kind as u64
+    u64::from(size) + 4_294_967_296 * u64::from(references) + 281_474_976_710_656 * u64::from(kind)
 }
 
 // How many words an object has.

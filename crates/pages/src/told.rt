@@ -26,6 +26,7 @@ pub enum Told {
     // A row of so many bytes.
     Shows(u64),
     // 4,097 times the house and so many bytes.
+    // As it stands: one number, since that is how the promise's definition of an act is told.
     Send(u64),
     Done,
     // As it stands: a number, since an act is defined with one; 0 is told where memory or the row does not fit.

@@ -35,6 +35,7 @@ pub(crate) fn put_words(words: &[u64], out: &mut [u8])
     requires { 8 * length words.now ≤ length out.old }
     ensures { out.new ≡ bytes_of words.now ++ drop (8 * length words.now) out.old }
 {
+    // As it stands: by index, since std says nothing of what a slice holds after `chunks_exact_mut`.
     for (i, word) in words.iter().enumerate() {
         out[8 * i..8 * i + 8].copy_from_slice(&in_eight(*word));
     }
