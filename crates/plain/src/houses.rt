@@ -191,7 +191,7 @@ impl House {
         if self.work.find(path).is_none() && self.work.len() >= MOST_FILES {
             return Err(Trouble::Refused(Refusal::TooManyFiles));
         }
-        self.work.put(path.to_vec(heap)?, bytes.to_vec(heap)?)?;
+        self.work.put(heap, path, bytes)?;
         self.unsettled.remove(path);
         Ok(Shown::nothing(heap))
     }
@@ -498,7 +498,7 @@ fn ours_alone(book: &Book, j: usize, k: usize) -> Result<Vec<usize>, AllocError>
     Ok(mine)
 }
 
-// One commit once more on top of another; none where it clashes, has two parents or makes too many files.
+// One commit once more on top of another; false where it clashes, has two parents or makes too many files.
 fn carry_one(book: &mut Book, way: &mut Way, k: usize) -> Result<bool, AllocError> {
     let Some(commit) = book.get(k) else {
         return Ok(false);
@@ -551,9 +551,7 @@ impl Plain {
         let number = u8::try_from(from).map_err(|_| Refusal::NotThere)?;
         let d = usize::from(number);
         let other = self.houses.get(d).filter(|_| d != c);
-        let Some(other) = other else {
-            return Err(Trouble::Refused(Refusal::NotThere));
-        };
+        let other = other.ok_or(Refusal::NotThere)?;
         x.take_branches(number, &other.branches)?;
         Ok(Shown::nothing(self.heap))
     }

@@ -1,6 +1,6 @@
 // Files by rising path, and how two trees are put together.
 ghost use Rattle.std.specs.BTreeMap.{btree_map_len};
-ghost use Rattle.std.specs.Prelude.{◌≡◌};
+ghost use Rattle.std.specs.Prelude.{◌≡◌, ◌==◌};
 ghost use Rattle.plain.specs.Sides.{Meets, is_clash, left, rows};
 ghost use Rattle.trees.specs.Tree.{alike};
 
@@ -60,7 +60,9 @@ impl Tree {
         self.files.len()
     }
 
-    pub fn is_empty(&self) -> bool {
+    pub fn is_empty(&self) -> bool
+        ensures { result ≡ (btree_map_len self.now.files == 0) }
+    {
         self.files.is_empty()
     }
 
@@ -68,8 +70,8 @@ impl Tree {
         self.files.get(path).map(|bytes| bytes.as_slice())
     }
 
-    pub fn put(&mut self, path: Vec<u8>, bytes: Vec<u8>) -> Result<(), AllocError> {
-        self.files.insert(path, bytes)?;
+    pub fn put(&mut self, heap: Global, path: &[u8], bytes: &[u8]) -> Result<(), AllocError> {
+        self.files.insert(path.to_vec(heap)?, bytes.to_vec(heap)?)?;
         Ok(())
     }
 
@@ -80,7 +82,7 @@ impl Tree {
     // Sets what is at a path: bytes, or nothing.
     pub fn set(&mut self, heap: Global, path: &[u8], row: Option<&[u8]>) -> Result<(), AllocError> {
         match row {
-            Some(bytes) => self.put(path.to_vec(heap)?, bytes.to_vec(heap)?),
+            Some(bytes) => self.put(heap, path, bytes),
             None => {
                 self.remove(path);
                 Ok(())
