@@ -5,7 +5,7 @@ ghost use Rattle.pages.specs.Words.{over};
 ghost use Rattle.objects.specs.Marking.{asked_on as went_on_by, begun, sought, walked, went_on};
 ghost use Rattle.objects.specs.Plan.{head_at, plan_end};
 ghost use Rattle.objects.specs.Sweeping.{sweep_begun, sweep_went_on, swung};
-ghost use Rattle.objects_tests.specs.Keeper.{keeper_client, KeeperSweeps, KeeperWalks, LoadsSaved, phase_code, phase_in, phase_said, request_said, said as said_at, stage_code, stage_in, surveyed, surveying, sweep_in, sweeping, swept, walk_in, walk_said, window_in};
+ghost use Rattle.objects_tests.specs.Keeper.{keeper_client, KeeperSweeps, KeeperWalks, LoadsSaved, phase_code, phase_in, phase_said, request_said, said as said_at, stage_code, stage_in, surveyed, surveying, sweep_in, sweeping, swept, walk_cells, walk_in, walk_said, window_in};
 
 use objects::mark::{Key, Walk};
 use objects::sweep::{Stage, Sweep};
@@ -90,6 +90,22 @@ fn walk_in(cells: &[u64]) -> Walk
     }
 }
 
+fn walk_cells(walk: &Walk) -> [u64; 9]
+    ensures { result ≡ walk_cells walk.now }
+{
+    [
+        walk.first,
+        walk.below,
+        walk.weight,
+        walk.kind,
+        walk.key.a,
+        walk.key.b,
+        walk.key.c,
+        walk.key.d,
+        walk.found,
+    ]
+}
+
 fn sweep_in(cells: &[u64]) -> Sweep
     requires { 14 ≤ length cells.now }
     ensures { result ≡ sweep_in cells.now }
@@ -113,7 +129,7 @@ fn said(text: &[u8], at: usize) -> u64
 }
 
 // The request that a code and two numbers stand for.
-// As it stands: numbers, since they are what a text says; each stands for one request or phase, here and nowhere else.
+// As it stands: numbers, since they are what a text says; `Command::numbers` of the rig writes them, and this reads them.
 fn request_said(code: u64, a: u64, b: u64) -> Request
     ensures { result ≡ request_said code a b }
 {
@@ -179,7 +195,7 @@ impl Keeper {
     {
         let mut head = [0; 32];
         head.copy_from_slice(&memory[0..32]);
-        memory[41_152..41_184].copy_from_slice(&head);
+        memory[plan::HEAD..plan::MAP].copy_from_slice(&head);
         let request = self.sweep.begin(memory);
         self.swept(request)
     }
@@ -246,29 +262,13 @@ impl Client for Keeper {
     fn save(&self) -> [u64; 120] {
         let mut cells = [0; 120];
         cells[0] = phase_code(self.phase);
-        cells[1] = self.walk.first;
-        cells[2] = self.walk.below;
-        cells[3] = self.walk.weight;
-        cells[4] = self.walk.kind;
-        cells[5] = self.walk.key.a;
-        cells[6] = self.walk.key.b;
-        cells[7] = self.walk.key.c;
-        cells[8] = self.walk.key.d;
-        cells[9] = self.walk.found;
+        cells[1..10].copy_from_slice(&walk_cells(&self.walk));
         cells[10] = stage_code(self.sweep.stage);
         cells[11] = self.sweep.at;
         cells[12] = self.sweep.from;
         cells[13] = self.sweep.page;
         cells[14] = self.sweep.waiting;
-        cells[15] = self.sweep.walk.first;
-        cells[16] = self.sweep.walk.below;
-        cells[17] = self.sweep.walk.weight;
-        cells[18] = self.sweep.walk.kind;
-        cells[19] = self.sweep.walk.key.a;
-        cells[20] = self.sweep.walk.key.b;
-        cells[21] = self.sweep.walk.key.c;
-        cells[22] = self.sweep.walk.key.d;
-        cells[23] = self.sweep.walk.found;
+        cells[15..24].copy_from_slice(&walk_cells(&self.sweep.walk));
         cells
     }
 

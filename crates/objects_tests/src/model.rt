@@ -106,10 +106,7 @@ impl Model {
     }
 
     fn header(&self, number: u64) -> u64 {
-        match self.get(number) {
-            Some(object) => object.header(),
-            None => 0,
-        }
+        self.get(number).map_or(0, |object| object.header())
     }
 
     pub fn word(&self, number: u64, i: u64) -> u64 {
@@ -133,10 +130,8 @@ impl Model {
 
     // The reference by which an object is stored; 0 if it isn't.
     pub fn name(&self, number: u64) -> u64 {
-        match self.get(number) {
-            Some(object) => object.name.unwrap_or(0),
-            None => 0,
-        }
+        self.get(number)
+            .map_or(0, |object| object.name.unwrap_or(0))
     }
 
     pub fn call(&mut self, number: u64, name: u64) {
@@ -158,10 +153,7 @@ impl Model {
     }
 
     pub fn is_live(&self, number: u64) -> bool {
-        match self.get(number) {
-            Some(object) => object.live,
-            None => false,
-        }
+        self.get(number).is_some_and(|object| object.live)
     }
 
     pub fn revive(&mut self, number: u64) {
@@ -193,28 +185,19 @@ impl Model {
 
     // What is live takes so many pages.
     pub fn live_pages(&self) -> u64 {
-        let mut units = 0u64;
-        for object in self.objects.iter().filter(|o| o.live) {
-            units = units.saturating_add(object.units());
-        }
-        pages_of(units)
+        let live = self.objects.iter().filter(|o| o.live);
+        pages_of(live.fold(0, |units, o| o.units().saturating_add(units)))
     }
 
     pub fn live_weight(&self) -> u64 {
-        let mut weight = 0u64;
-        for object in self.objects.iter().filter(|o| o.live) {
-            weight = weight.saturating_add(object.weight());
-        }
-        weight
+        let live = self.objects.iter().filter(|o| o.live);
+        live.fold(0, |weight, o| o.weight().saturating_add(weight))
     }
 
     // What lies from a number on takes so many pages.
     pub fn pages_from(&self, number: u64) -> u64 {
-        let mut units = 0u64;
-        for object in self.objects.iter().skip(place(number).unwrap_or(0)) {
-            units = units.saturating_add(object.units());
-        }
-        pages_of(units)
+        let behind = self.objects.iter().skip(place(number).unwrap_or(0));
+        pages_of(behind.fold(0, |units, o| o.units().saturating_add(units)))
     }
 
     // Whether a head's roots name on a device what these roots name here: each object once, in order, in the head's window.

@@ -7,8 +7,8 @@ use pages::told::{Event, Told};
 use pages::words::words_in;
 use std::alloc::{AllocError, Global};
 
-// Where the buffer starts in memory.
-const BUFFER: usize = 128;
+// Where a client's memory, and in it the buffer, starts.
+const BUFFER_AT: usize = 128;
 
 // What can be said.
 #[derive(Clone, Copy)]
@@ -88,7 +88,7 @@ impl Rig {
     pub fn peek(&self, at: usize) -> &[u64] {
         self.desk
             .memory
-            .get(at.saturating_add(BUFFER)..)
+            .get(at.saturating_add(BUFFER_AT)..)
             .unwrap_or(&[])
     }
 
@@ -98,7 +98,7 @@ impl Rig {
             .desk
             .memory
             .as_mut_slice()
-            .get_mut(at.saturating_add(BUFFER)..)
+            .get_mut(at.saturating_add(BUFFER_AT)..)
         {
             for (cell, word) in room.iter_mut().zip(words) {
                 *cell = *word;

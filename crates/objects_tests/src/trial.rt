@@ -3,11 +3,12 @@ use crate::model::Model;
 use crate::random::Random;
 use crate::rig::{Command, Rig, head};
 use device::{Left, outcome};
+use pages::machine::BUFFER;
 use pages::told::Told;
 use std::alloc::{AllocError, Global};
 
 // The words that one request lays at most.
-const MOST: u64 = 41_088;
+const MOST: u64 = BUFFER as u64;
 
 // What was done and seen.
 #[derive(Clone, Copy, Default)]
