@@ -1,18 +1,16 @@
 -- Rows of pages, as the code sets and reads them, are those of the device. Assumes nothing.
-use Rattle.std.proofs.Common.{◌≡◌, ℕ, zero, suc, ◌+◌, ◌/◌, ◌%◌, ◌<◌, ◌≤◌, eqb, ◌⊎◌, List, [], ◌∷◌, ◌++◌, length, get_or, drop, set, replicate, sym, refl, ap, ◌∙◌, ap₂, inl, inr, arith}
+use Rattle.std.proofs.Common.{◌≡◌, ℕ, zero, suc, ◌/◌, ◌%◌, ◌<◌, ◌≤◌, eqb, List, [], ◌∷◌, ◌++◌, length, get_or, set, replicate, sym, refl, ap, ◌∙◌, arith}
 use Rattle.std.specs.List.{AllZip}
 use Rattle.std.proofs.lemmas.Slice.Zip.{AllZip-map}
-use Rattle.std.proofs.lemmas.Bool.{eqb-true, eqb-false, cases_lt}
-use Rattle.std.proofs.lemmas.List.{drop_more, drop_all, get_or_past, map-id}
+use Rattle.std.proofs.lemmas.Bool.{eqb-true, eqb-false}
+use Rattle.std.proofs.lemmas.List.{map-id}
 use Rattle.pages.specs.Lists.{each, zeros}
 use Rattle.pages.specs.Device.{Page, Write, all_written, blank, left, page_at, set_page}
 use Rattle.pages.proofs.ListLaws.{pick_both}
 use Rattle.pages.proofs.DeviceLaws.{page_at_set_other}
-use Rattle.device.specs.Held.{brought, last_of, meant}
+use Rattle.device.specs.Held.{last_of}
 use Rattle.device.specs.Left.{code, digits}
 use Rattle.device.specs.declared.Left.{Left}
-use Rattle.device.specs.declared.Left.TheVariants.{Nothing}
-use Rattle.device.specs.declared.Write.{Write as Waiting}
 
 pub set_is : (ps : List Page) (k : ℕ) (p : Page) → set ps k p ≡ set_page ps k p
 unfolding set_page
@@ -60,33 +58,10 @@ unfolding blank
 blank_is zero = refl
 blank_is (suc n) = ap (λ ps. zeros 512 ∷ ps) (blank_is n)
 
-left_none : (ps : List Page) (ws : List Write) → left ps ws [] ≡ ps
+pub left_none : (ps : List Page) (ws : List Write) → left ps ws [] ≡ ps
 unfolding left
 left_none ps [] = refl
 left_none ps (w ∷ ws) = refl
-
--- one write more, of which so much came in as is said of it
-pub left_more : (q : List Waiting) (cs : List Left) (i : ℕ) (ps : List Page) (d : Waiting) → i < length q →
-    left (brought ps (meant (get_or q i d)) (code (get_or cs i Nothing))) (each meant (drop (i + 1) q)) (each code (drop (i + 1) cs))
-    ≡ left ps (each meant (drop i q)) (each code (drop i cs))
-unfolding left
-left_more q cs i ps d h = go (cases_lt i (length cs))
-  where
-    w : Waiting
-    w = get_or q i d
-
-    rest : List Write
-    rest = each meant (drop (i + 1) q)
-
-    front : each meant (drop i q) ≡ meant w ∷ rest
-    front = ap (each meant) (drop_more q i d h)
-
-    go : (i < length cs) ⊎ (length cs ≤ i) →
-        left (brought ps (meant w) (code (get_or cs i Nothing))) rest (each code (drop (i + 1) cs)) ≡ left ps (each meant (drop i q)) (each code (drop i cs))
-    go (inl l) = sym (ap₂ (left ps) front (ap (each code) (drop_more cs i Nothing l)))
-    go (inr l) =
-        ap₂ (λ (c : Left) ds. left (brought ps (meant w) (code c)) rest (each code ds)) (get_or_past cs i Nothing l) (drop_all (i + 1) cs (omega arith))
-        ∙ left_none ps rest ∙ sym (ap₂ (left ps) front (ap (each code) (drop_all i cs l)))
 
 pub same_zeros : (ys : List ℕ) → AllZip (λ x y. y ≡ x) (zeros 512) ys → ys ≡ zeros 512
 same_zeros ys h = AllZip-map (λ x. x) (zeros 512) ys h ∙ map-id (zeros 512)

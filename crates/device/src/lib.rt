@@ -1,7 +1,7 @@
 // A device in memory and a house's memory beside it, for trials. The device is proved to be the one of the promise.
 #![tactic(auto)]
 
-ghost use Rattle.std.specs.Prelude.{◌≡◌, ◌%◌, ◌<◌, ◌≤◌, List, [], ◌++◌, ◌∷◌, length, slice_index_or, IfOk, MatchOption};
+ghost use Rattle.std.specs.Prelude.{◌≡◌, ◌%◌, ◌<◌, ◌≤◌, List, [], ◌++◌, ◌∷◌, length, IfOk, MatchOption};
 ghost use Rattle.pages.specs.Device.{Device as Held, all_written, blank, flushed, left as left_of, read_page, set_page, stopped};
 ghost use Rattle.pages.specs.Lists.{each};
 ghost use Rattle.device.specs.Held.{brought, last_of, meant};
@@ -116,18 +116,11 @@ fn bring_all(pages: &mut [Page], queue: &[Write])
     }
 }
 
-// What is said of a write by its place; nothing where the row ends before.
-fn said(left: &[Left], i: usize) -> Left
-    ensures { result ≡ slice_index_or left.now i Left.Nothing }
-{
-    left.get(i).copied().unwrap_or(Left::Nothing)
-}
-
 fn bring_some(pages: &mut [Page], queue: &[Write], left: &[Left])
     ensures { pages.new ≡ left_of pages.old (each meant queue.now) (each code left.now) }
 {
-    for (i, write) in queue.iter().enumerate() {
-        bring(pages, write, said(left, i));
+    for (write, left) in queue.iter().zip(left) {
+        bring(pages, write, *left);
     }
 }
 
