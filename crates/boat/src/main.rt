@@ -68,9 +68,9 @@ fn ask(rt: &HostRuntime, driver: &mut Driver, bytes: &[u8]) -> Result<(), Troubl
 // Answers one line.
 fn answer(rt: &HostRuntime, driver: &mut Driver, number: u64, line: &[u8]) -> Result<(), Trouble> {
     match asked_by(rt.alloc(), line) {
-        Ok(Asked::Nothing) => Ok(()),
-        Ok(Asked::Run(bytes)) => ask(rt, driver, bytes.as_slice()),
-        Ok(Asked::Spell(bytes)) => print_row(rt, bytes.as_slice()),
+        Ok(None) => Ok(()),
+        Ok(Some(Asked::Run(bytes))) => ask(rt, driver, &bytes),
+        Ok(Some(Asked::Spell(bytes))) => print_row(rt, &bytes),
         Err(why) => system("print", println!(rt; "line {number}: {why}")),
     }
 }
