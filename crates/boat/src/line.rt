@@ -1,7 +1,10 @@
 // A line of text as a command.
-ghost use Rattle.std.specs.Prelude.{◌≡◌, ◌<◌, ◌≤◌, ◌↔◌, IfOk, IsOk, vec_len};
+ghost use Rattle.std.specs.Prelude.{◌≡◌, ◌<◌, ◌≤◌, ◌↔◌, IfOk, IsOk, Some, vec_len};
+ghost use Rattle.commands.specs.Meaning.{meant};
+ghost use Rattle.commands.specs.Parse.{parsed};
 
 use crate::unread::Unread;
+use commands::laws::parsed_back;
 use commands::{Command, spell};
 use lines::{escape, hex};
 use std::alloc::Global;
@@ -157,7 +160,10 @@ impl<'a> Words<'a> {
 }
 
 // The command's spelling, if no word is left.
-fn spelled<'a>(command: Command, words: &Words<'a>) -> Result<Vec<u8>, Unread<'a>> {
+fn spelled<'a>(command: Command, words: &Words<'a>) -> Result<Vec<u8>, Unread<'a>>
+    ensures { IfOk result (λ bytes. parsed bytes.items ≡ Some (meant command.entry)) }
+{
+    parsed_back();
     words.end()?;
     let mut bytes = vec![in words.heap; 0u8; SPELLING]?;
     let size = spell(command, bytes.as_mut_slice()).ok_or(Unread::NoSpelling)?;
