@@ -1,6 +1,4 @@
 // A house, driven act by act over its file.
-ghost use Rattle.std.specs.Prelude.{◌≡◌, ◌↔◌, ◌<◌, ◌≤◌, IfOk, IsOk};
-
 use crate::page_file::{PAGE, PageFile};
 use crate::trouble::{Refused, Trouble, system};
 use house::tell;
@@ -56,7 +54,7 @@ impl Driver {
         for _ in 0..ACTS {
             match told {
                 Told::Done => return Ok(Ok(())),
-                Told::No(number) => return Ok(Err(refused(number)?)),
+                Told::No(number) => return Ok(Err(Refused::try_from(number)?)),
                 _ => told = self.act(rt, told)?,
             }
         }
@@ -114,16 +112,4 @@ impl Driver {
 pub fn print_row(rt: &HostRuntime, row: &[u8]) -> Result<(), Trouble> {
     let line = hex::line_of(rt.alloc(), row)?;
     system("print", rt.stdout().write_all(line.as_bytes()))
-}
-
-// A refusal has a number from 1 to 999.
-fn refused(number: u64) -> Result<Refused, Trouble>
-    ensures ok { IfOk result (λ r. r ≡ record { 0 = number }) }
-    ensures fits { IsOk result ↔ ((1 ≤ number) × (number < 1000)) }
-{
-    if 1 <= number && number < 1000 {
-        Ok(Refused(number))
-    } else {
-        Err(Trouble::Fault)
-    }
 }

@@ -1,56 +1,14 @@
 // A line of text as a command.
-ghost use Rattle.std.specs.Prelude.{◌<◌, IfOk};
+ghost use Rattle.std.specs.Prelude.{◌≡◌, ◌<◌, ◌≤◌, ◌↔◌, IfOk, IsOk, Some, vec_len};
+ghost use Rattle.commands.specs.Meaning.{meant};
+ghost use Rattle.commands.specs.Parse.{parsed};
 
 use crate::unread::Unread;
+use commands::laws::parsed_back;
 use commands::{Command, spell};
 use lines::{escape, hex};
 use std::alloc::Global;
-
-#[derive(Clone, Copy)]
-enum Verb {
-    Write,
-    Drop,
-    Commit,
-    Branch,
-    GoTo,
-    History,
-    Show,
-    Status,
-    Read,
-    Join,
-    Settle,
-    Leave,
-    MoveOnto,
-    Carry,
-    Forget,
-    Tag,
-    Who,
-    Sweep,
-    Fetch,
-    Raw,
-}
-
-// What stands behind a verb.
-#[derive(Clone, Copy)]
-enum Shape {
-    Nothing,
-    Name(&'static str),
-    Ref,
-    RefAndPath,
-    PathAndText,
-    StampAndWords,
-    Id,
-    House,
-    Bytes,
-}
-
-// The pieces of a command, as bytes; those that it lacks are empty or 0.
-#[derive(Drop)]
-struct Pieces {
-    first: Vec<u8>,
-    second: Vec<u8>,
-    number: u64,
-}
+use std::mem;
 
 const NAME: usize = 64;
 
@@ -59,96 +17,25 @@ const TEXT: usize = 65535;
 // The longest spelling: a kind, and two rows with their lengths.
 const SPELLING: usize = 1 + (8 + 65) + (8 + TEXT);
 
-// The first word, and what stands behind it and one space.
-fn cut_word(text: &str) -> (&str, &str) {
-    let text = text.trim_start_matches(' ');
-    text.split_once(' ').unwrap_or((text, ""))
-}
-
-// The verb at the front of a line, and what stands behind it.
-fn verb_of<'a>(line: &'a str) -> Result<(Verb, &'a str), Unread<'a>> {
-    let (word, rest) = cut_word(line);
-    let verb = match word {
-        "write" => Verb::Write,
-        "drop" => Verb::Drop,
-        "commit" => Verb::Commit,
-        "branch" => Verb::Branch,
-        "go" => return second_word(rest, "to", Verb::GoTo, line),
-        "history" => Verb::History,
-        "show" => Verb::Show,
-        "status" => Verb::Status,
-        "read" => Verb::Read,
-        "join" => Verb::Join,
-        "settle" => Verb::Settle,
-        "leave" => Verb::Leave,
-        "move" => return second_word(rest, "onto", Verb::MoveOnto, line),
-        "carry" => Verb::Carry,
-        "forget" => Verb::Forget,
-        "tag" => Verb::Tag,
-        "who" => Verb::Who,
-        "sweep" => Verb::Sweep,
-        "fetch" => Verb::Fetch,
-        "raw" => Verb::Raw,
-        _ => return Err(Unread::NoCommand(word)),
-    };
-    Ok((verb, rest))
-}
-
-// The verb, if its second word is next.
-fn second_word<'a>(
-    text: &'a str,
-    wanted: &str,
-    verb: Verb,
-    line: &'a str,
-) -> Result<(Verb, &'a str), Unread<'a>> {
-    let (word, rest) = cut_word(text);
-    if word == wanted {
-        Ok((verb, rest))
+// The word, if it is there.
+fn present<'a>(what: &'static str, word: &'a str) -> Result<&'a str, Unread<'a>> {
+    if word.is_empty() {
+        Err(Unread::Missing(what))
     } else {
-        Err(Unread::NoCommand(line))
-    }
-}
-
-fn shape_of(verb: Verb) -> Shape {
-    match verb {
-        Verb::Write => Shape::PathAndText,
-        Verb::Commit => Shape::StampAndWords,
-        Verb::Show => Shape::RefAndPath,
-        Verb::Drop | Verb::Read | Verb::Settle | Verb::Who => Shape::Name("path"),
-        Verb::Branch | Verb::GoTo | Verb::Forget | Verb::Tag => Shape::Name("name"),
-        Verb::Join | Verb::MoveOnto => Shape::Ref,
-        Verb::Carry => Shape::Id,
-        Verb::Fetch => Shape::House,
-        Verb::Raw => Shape::Bytes,
-        Verb::History | Verb::Status | Verb::Leave | Verb::Sweep => Shape::Nothing,
+        Ok(word)
     }
 }
 
 fn number_of<'a>(what: &'static str, word: &'a str) -> Result<u64, Unread<'a>> {
-    if word.is_empty() {
-        return Err(Unread::Missing(what));
-    }
+    let word = present(what, word)?;
     word.parse::<u64>().map_err(|_| Unread::NoNumber(word))
 }
 
-fn house_of(word: &str) -> Result<u8, Unread<'_>>
-    ensures { IfOk result (λ n. n < 16) }
-{
-    let number = number_of("house", word)?;
-    if number < 16 {
-        Ok(number as u8)
-    } else {
-        Err(Unread::NoHouse(number))
-    }
-}
-
-// The bytes that a text with escapes stands for.
-fn unescaped<'a>(heap: Global, text: &'a str) -> Result<Vec<u8>, Unread<'a>> {
-    escape::unescaped(heap, text.as_bytes())?.ok_or(Unread::Escape(text))
-}
-
 // The bytes, if they are no more than there may be.
-fn limited<'a>(what: &'static str, bytes: Vec<u8>, most: usize) -> Result<Vec<u8>, Unread<'a>> {
+fn limited<'a>(what: &'static str, bytes: Vec<u8>, most: usize) -> Result<Vec<u8>, Unread<'a>>
+    ensures fits { IsOk result ↔ (vec_len bytes ≤ most) }
+    ensures same { IfOk result (λ v. v ≡ bytes) }
+{
     let size = bytes.len();
     if size <= most {
         Ok(bytes)
@@ -157,185 +44,194 @@ fn limited<'a>(what: &'static str, bytes: Vec<u8>, most: usize) -> Result<Vec<u8
     }
 }
 
-// The bytes of a name or a path.
-fn name_of<'a>(heap: Global, what: &'static str, word: &'a str) -> Result<Vec<u8>, Unread<'a>> {
-    if word.is_empty() {
-        return Err(Unread::Missing(what));
-    }
-    limited(what, unescaped(heap, word)?, NAME)
-}
+// The number of a house.
+#[derive(Clone, Copy)]
+struct House(u8);
 
-fn text_of<'a>(heap: Global, what: &'static str, text: &'a str) -> Result<Vec<u8>, Unread<'a>> {
-    limited(what, unescaped(heap, text)?, TEXT)
-}
+impl<'a> TryFrom<&'a str> for House {
+    type Error = Unread<'a>;
 
-// The bytes of a branch; before that of another house stands its number and a colon.
-fn ref_of<'a>(heap: Global, word: &'a str) -> Result<Vec<u8>, Unread<'a>> {
-    let Some((house, name)) = word.split_once(':') else {
-        return name_of(heap, "name", word);
-    };
-    let house = house_of(house)?;
-    let mut bytes = name_of(heap, "name", name)?;
-    bytes.insert(0, house)?;
-    Ok(bytes)
-}
+    ghost try_from_gives = { λ _ res. IfOk res (λ house. house.0 < 16) };
 
-fn digits_of<'a>(heap: Global, word: &'a str) -> Result<Vec<u8>, Unread<'a>> {
-    hex::bytes_of(heap, word.as_bytes())?.ok_or(Unread::NoDigits(word))
-}
-
-fn id_of<'a>(heap: Global, word: &'a str) -> Result<Vec<u8>, Unread<'a>> {
-    if word.is_empty() {
-        return Err(Unread::Missing("id"));
-    }
-    limited("id", digits_of(heap, word)?, NAME)
-}
-
-// Nothing but spaces may be left.
-fn ended<'a>(rest: &'a str, pieces: Pieces) -> Result<Pieces, Unread<'a>> {
-    let left = rest.trim_start_matches(' ');
-    if left.is_empty() {
-        Ok(pieces)
-    } else {
-        Err(Unread::Extra(left))
+    fn try_from(word: &'a str) -> Result<House, Unread<'a>> {
+        let number = number_of("house", word)?;
+        if number < 16 {
+            Ok(House(number as u8))
+        } else {
+            Err(Unread::NoHouse(number))
+        }
     }
 }
 
-fn just<'a>(heap: Global, bytes: Vec<u8>, rest: &'a str) -> Result<Pieces, Unread<'a>> {
-    let pieces = Pieces {
-        first: bytes,
-        second: Vec::new(heap),
-        number: 0,
-    };
-    ended(rest, pieces)
-}
-
-fn both<'a>(first: Vec<u8>, second: Vec<u8>, rest: &'a str) -> Result<Pieces, Unread<'a>> {
-    let pieces = Pieces {
-        first,
-        second,
-        number: 0,
-    };
-    ended(rest, pieces)
-}
-
-fn counted<'a>(
+// What is left of a line, and where the bytes that it stands for are kept.
+#[derive(Drop)]
+struct Words<'a> {
     heap: Global,
-    number: u64,
-    second: Vec<u8>,
     rest: &'a str,
-) -> Result<Pieces, Unread<'a>> {
-    let pieces = Pieces {
-        first: Vec::new(heap),
-        second,
-        number,
-    };
-    ended(rest, pieces)
 }
 
-// The pieces of a command from what stands behind its verb.
-fn pieces_of<'a>(heap: Global, shape: Shape, text: &'a str) -> Result<Pieces, Unread<'a>> {
-    let (word, rest) = cut_word(text);
-    match shape {
-        Shape::Nothing => just(heap, Vec::new(heap), text),
-        Shape::Name(what) => just(heap, name_of(heap, what, word)?, rest),
-        Shape::Ref => just(heap, ref_of(heap, word)?, rest),
-        Shape::Id => just(heap, id_of(heap, word)?, rest),
-        Shape::Bytes => just(heap, digits_of(heap, word)?, rest),
-        Shape::House => counted(heap, u64::from(house_of(word)?), Vec::new(heap), rest),
-        Shape::PathAndText => {
-            let path = name_of(heap, "path", word)?;
-            both(path, text_of(heap, "text", rest)?, "")
-        }
-        Shape::StampAndWords => {
-            let stamp = number_of("stamp", word)?;
-            counted(heap, stamp, text_of(heap, "words", rest)?, "")
-        }
-        Shape::RefAndPath => {
-            let name = ref_of(heap, word)?;
-            let (path, rest) = cut_word(rest);
-            both(name, name_of(heap, "path", path)?, rest)
+impl<'a> Words<'a> {
+    // The next word, which is empty where none is left; one space goes with it.
+    fn word(&mut self) -> &'a str {
+        let text = self.rest.trim_start_matches(' ');
+        let (word, rest) = text.split_once(' ').unwrap_or((text, ""));
+        self.rest = rest;
+        word
+    }
+
+    // The bytes that a text with escapes stands for.
+    fn unescaped(
+        &self,
+        what: &'static str,
+        text: &'a str,
+        most: usize,
+    ) -> Result<Vec<u8>, Unread<'a>> {
+        let bytes = escape::unescaped(self.heap, text.as_bytes())?;
+        limited(what, bytes.ok_or(Unread::Escape(text))?, most)
+    }
+
+    fn named(&self, what: &'static str, word: &'a str) -> Result<Vec<u8>, Unread<'a>> {
+        self.unescaped(what, present(what, word)?, NAME)
+    }
+
+    fn name(&mut self) -> Result<Vec<u8>, Unread<'a>> {
+        let word = self.word();
+        self.named("name", word)
+    }
+
+    fn path(&mut self) -> Result<Vec<u8>, Unread<'a>> {
+        let word = self.word();
+        self.named("path", word)
+    }
+
+    // A branch; before that of another house stands its number and a colon.
+    fn reference(&mut self) -> Result<Vec<u8>, Unread<'a>> {
+        let word = self.word();
+        let Some((house, name)) = word.split_once(':') else {
+            return self.named("name", word);
+        };
+        let house = House::try_from(house)?;
+        let mut bytes = self.named("name", name)?;
+        bytes.insert(0, house.0)?;
+        Ok(bytes)
+    }
+
+    // All that is left, spaces too.
+    fn text(&mut self, what: &'static str) -> Result<Vec<u8>, Unread<'a>> {
+        let text = mem::replace(&mut self.rest, "");
+        self.unescaped(what, text, TEXT)
+    }
+
+    fn number(&mut self, what: &'static str) -> Result<u64, Unread<'a>> {
+        number_of(what, self.word())
+    }
+
+    fn house(&mut self) -> Result<u64, Unread<'a>> {
+        let house = House::try_from(self.word())?;
+        Ok(u64::from(house.0))
+    }
+
+    fn digits(&self, word: &'a str) -> Result<Vec<u8>, Unread<'a>> {
+        hex::bytes_of(self.heap, word.as_bytes())?.ok_or(Unread::NoDigits(word))
+    }
+
+    fn id(&mut self) -> Result<Vec<u8>, Unread<'a>> {
+        let word = present("id", self.word())?;
+        limited("id", self.digits(word)?, NAME)
+    }
+
+    // The bytes of a command that is spelled already.
+    fn raw(&mut self) -> Result<Vec<u8>, Unread<'a>> {
+        let word = self.word();
+        let bytes = self.digits(word)?;
+        self.end()?;
+        Ok(bytes)
+    }
+
+    // Nothing but spaces may be left.
+    fn end(&self) -> Result<(), Unread<'a>> {
+        let left = self.rest.trim_start_matches(' ');
+        if left.is_empty() {
+            Ok(())
+        } else {
+            Err(Unread::Extra(left))
         }
     }
 }
 
-// The command of a verb with its pieces; `raw` is none.
-fn command_of<'a>(
-    verb: Verb,
-    first: &'a [u8],
-    second: &'a [u8],
-    number: u64,
-) -> Option<Command<'a>> {
-    let command = match verb {
-        Verb::Write => Command::WriteFile(first, second),
-        Verb::Drop => Command::DropFile(first),
-        Verb::Commit => Command::Commit(number, second),
-        Verb::Branch => Command::Branch(first),
-        Verb::GoTo => Command::GoTo(first),
-        Verb::History => Command::History,
-        Verb::Show => Command::ShowFile(first, second),
-        Verb::Status => Command::Status,
-        Verb::Read => Command::ReadFile(first),
-        Verb::Join => Command::Join(first),
-        Verb::Settle => Command::Settle(first),
-        Verb::Leave => Command::Leave,
-        Verb::MoveOnto => Command::MoveOnto(first),
-        Verb::Carry => Command::Carry(first),
-        Verb::Forget => Command::Forget(first),
-        Verb::Tag => Command::Tag(first),
-        Verb::Who => Command::Who(first),
-        Verb::Sweep => Command::Sweep,
-        Verb::Fetch => Command::Fetch(number),
-        Verb::Raw => return None,
-    };
-    Some(command)
-}
-
-// The command's spelling.
-fn spelling_of<'a>(heap: Global, command: Command) -> Result<Vec<u8>, Unread<'a>> {
-    let mut bytes = vec![in heap; 0u8; SPELLING]?;
+// The command's spelling, if no word is left.
+fn spelled<'a>(command: Command, words: &Words<'a>) -> Result<Vec<u8>, Unread<'a>>
+    ensures { IfOk result (λ bytes. parsed bytes.items ≡ Some (meant command.entry)) }
+{
+    parsed_back();
+    words.end()?;
+    let mut bytes = vec![in words.heap; 0u8; SPELLING]?;
     let size = spell(command, bytes.as_mut_slice()).ok_or(Unread::NoSpelling)?;
     bytes.truncate(size);
     Ok(bytes)
 }
 
+// The bytes of the command on a line.
+fn bytes_of<'a>(heap: Global, line: &'a str) -> Result<Vec<u8>, Unread<'a>> {
+    let mut words = Words { heap, rest: line };
+    match words.word() {
+        "write" => spelled(
+            Command::WriteFile(&words.path()?, &words.text("text")?),
+            &words,
+        ),
+        "drop" => spelled(Command::DropFile(&words.path()?), &words),
+        "commit" => spelled(
+            Command::Commit(words.number("stamp")?, &words.text("words")?),
+            &words,
+        ),
+        "branch" => spelled(Command::Branch(&words.name()?), &words),
+        "go" => match words.word() {
+            "to" => spelled(Command::GoTo(&words.name()?), &words),
+            _ => Err(Unread::NoCommand(line)),
+        },
+        "history" => spelled(Command::History, &words),
+        "show" => spelled(
+            Command::ShowFile(&words.reference()?, &words.path()?),
+            &words,
+        ),
+        "status" => spelled(Command::Status, &words),
+        "read" => spelled(Command::ReadFile(&words.path()?), &words),
+        "join" => spelled(Command::Join(&words.reference()?), &words),
+        "settle" => spelled(Command::Settle(&words.path()?), &words),
+        "leave" => spelled(Command::Leave, &words),
+        "move" => match words.word() {
+            "onto" => spelled(Command::MoveOnto(&words.reference()?), &words),
+            _ => Err(Unread::NoCommand(line)),
+        },
+        "carry" => spelled(Command::Carry(&words.id()?), &words),
+        "forget" => spelled(Command::Forget(&words.name()?), &words),
+        "tag" => spelled(Command::Tag(&words.name()?), &words),
+        "who" => spelled(Command::Who(&words.path()?), &words),
+        "sweep" => spelled(Command::Sweep, &words),
+        "fetch" => spelled(Command::Fetch(words.house()?), &words),
+        "raw" => words.raw(),
+        word => Err(Unread::NoCommand(word)),
+    }
+}
+
 // What a line asks for.
 #[derive(Drop)]
 pub enum Asked {
-    Nothing,
     // That the house runs a command.
     Run(Vec<u8>),
     // That the command's bytes are printed.
     Spell(Vec<u8>),
 }
 
-// The bytes of the command on a line.
-fn bytes_of<'a>(heap: Global, line: &'a str) -> Result<Vec<u8>, Unread<'a>> {
-    let (verb, rest) = verb_of(line)?;
-    let Pieces {
-        first,
-        second,
-        number,
-    } = pieces_of(heap, shape_of(verb), rest)?;
-    match command_of(verb, first.as_slice(), second.as_slice(), number) {
-        Some(command) => spelling_of(heap, command),
-        None => Ok(first),
+// What a line asks for; a comment or an empty line asks for nothing.
+pub fn asked_by<'a>(heap: Global, line: &'a [u8]) -> Result<Option<Asked>, Unread<'a>> {
+    let line = std::str::from_utf8(line).map_err(|_| Unread::NoText)?;
+    if line.starts_with('#') || line.trim_start_matches(' ').is_empty() {
+        return Ok(None);
     }
-}
-
-// What a line of text asks for.
-fn asked_in<'a>(heap: Global, line: &'a str) -> Result<Asked, Unread<'a>> {
-    if line.trim_start_matches(' ').is_empty() || line.starts_with('#') {
-        return Ok(Asked::Nothing);
-    }
-    match line.strip_prefix("spell ") {
-        Some(line) => Ok(Asked::Spell(bytes_of(heap, line)?)),
-        None => Ok(Asked::Run(bytes_of(heap, line)?)),
-    }
-}
-
-// What a line asks for.
-pub fn asked_by<'a>(heap: Global, line: &'a [u8]) -> Result<Asked, Unread<'a>> {
-    let text = std::str::from_utf8(line).map_err(|_| Unread::NoText)?;
-    asked_in(heap, text)
+    let asked = match line.strip_prefix("spell ") {
+        Some(line) => Asked::Spell(bytes_of(heap, line)?),
+        None => Asked::Run(bytes_of(heap, line)?),
+    };
+    Ok(Some(asked))
 }

@@ -9,47 +9,33 @@ mod unread;
 
 use driver::{Driver, print_row};
 use line::{Asked, asked_by};
-use page_file::{PageFile, is_house};
+use page_file::{PageCount, PageFile};
 use std::io::{BufRead, BufReader};
 use std::process::ExitCode;
 use std::{env, fs, io};
 use trouble::{Trouble, system};
 
-// The number of pages of a file that is made, where none is asked for.
-const PAGES: u64 = 4096;
-
-// The number of pages that is asked for.
-fn count_of(text: &str) -> Result<u64, Trouble> {
-    match text.parse::<u64>() {
-        Ok(pages) if is_house(pages) => Ok(pages),
-        _ => Err(Trouble::Count),
-    }
-}
-
 // The file as it is, or a new one where there is none.
-fn file_at(rt: &HostRuntime, path: &str, pages: Option<u64>) -> Result<PageFile, Trouble> {
+fn file_at(rt: &HostRuntime, path: &str, asked: Option<PageCount>) -> Result<PageFile, Trouble> {
     let found = match fs::metadata(rt, path) {
-        Ok(found) => found,
-        Err(error) => {
-            if error.kind() == io::ErrorKind::NotFound {
-                return new_file(rt, path, pages);
-            }
-            return Err(Trouble::System("find the file", error));
+        Err(error) if error.kind() == io::ErrorKind::NotFound => {
+            return new_file(rt, path, asked.unwrap_or_default());
         }
+        found => system("find the file", found)?,
     };
     if !found.is_file() {
         return Err(Trouble::NoFile);
     }
     let file = PageFile::open(rt, path)?;
     let held = file.pages();
-    match pages {
-        Some(asked) if asked != held => Err(Trouble::Differs(held, asked)),
+    match asked {
+        Some(asked) if asked.number() != held => Err(Trouble::Differs(held, asked.number())),
         _ => Ok(file),
     }
 }
 
-fn new_file(rt: &HostRuntime, path: &str, pages: Option<u64>) -> Result<PageFile, Trouble> {
-    let pages = pages.unwrap_or(PAGES);
+fn new_file(rt: &HostRuntime, path: &str, count: PageCount) -> Result<PageFile, Trouble> {
+    let pages = count.number();
     let file = PageFile::make(rt, path, pages)?;
     let said = eprintln!(rt; "boat: {path}: a new file of {pages} pages");
     system("print", said)?;
@@ -68,31 +54,26 @@ fn ask(rt: &HostRuntime, driver: &mut Driver, bytes: &[u8]) -> Result<(), Troubl
 // Answers one line.
 fn answer(rt: &HostRuntime, driver: &mut Driver, number: u64, line: &[u8]) -> Result<(), Trouble> {
     match asked_by(rt.alloc(), line) {
-        Ok(Asked::Nothing) => Ok(()),
-        Ok(Asked::Run(bytes)) => ask(rt, driver, bytes.as_slice()),
-        Ok(Asked::Spell(bytes)) => print_row(rt, bytes.as_slice()),
+        Ok(None) => Ok(()),
+        Ok(Some(Asked::Run(bytes))) => ask(rt, driver, &bytes),
+        Ok(Some(Asked::Spell(bytes))) => print_row(rt, &bytes),
         Err(why) => system("print", println!(rt; "line {number}: {why}")),
     }
 }
 
 // Answers each line of standard input.
 fn serve(rt: &HostRuntime, driver: &mut Driver) -> Result<(), Trouble> {
-    let mut number = 0u64;
     let input = system("read a line", BufReader::new(rt.alloc(), rt.stdin()))?;
-    for line in input.split(rt.alloc(), b'\n') {
+    for (number, line) in (1..=u64::MAX).zip(input.split(rt.alloc(), b'\n')) {
         let line = system("read a line", line)?;
-        number = number.saturating_add(1);
         answer(rt, driver, number, line.as_slice())?;
     }
     Ok(())
 }
 
 fn run(rt: &HostRuntime, path: &str, pages: Option<String>) -> Result<(), Trouble> {
-    let pages = match pages {
-        Some(text) => Some(count_of(text.as_str())?),
-        None => None,
-    };
-    let file = file_at(rt, path, pages)?;
+    let asked = pages.map(|text| text.parse::<PageCount>()).transpose()?;
+    let file = file_at(rt, path, asked)?;
     let mut driver = Driver::start(rt, file)?;
     serve(rt, &mut driver)
 }

@@ -1,17 +1,59 @@
 // A file of pages.
-ghost use Rattle.std.specs.Prelude.{◌≡◌, ◌*◌, ◌≤◌, ◌&&◌, IfOk, nat_le};
+ghost use Rattle.std.specs.Prelude.{◌≡◌, ◌*◌, ◌≤◌, ◌↔◌, IfOk, IsOk};
 
 use crate::trouble::{Trouble, system};
 use std::fs::{File, OpenOptions};
 use std::io;
 use std::io::{Read, Seek, SeekFrom, Write};
 use std::path::Path;
+use std::str::FromStr;
 
 pub const PAGE: usize = 512;
 
 const FEWEST: u64 = 64;
 
 const MOST: u64 = 1048576;
+
+// How many pages a house has.
+#[derive(Clone, Copy)]
+pub struct PageCount(u64);
+
+impl PageCount {
+    pub fn number(self) -> u64
+        ensures { result ≡ self.0 }
+    {
+        self.0
+    }
+}
+
+// Where nobody asks for a number.
+impl Default for PageCount {
+    fn default() -> Self {
+        PageCount(4096)
+    }
+}
+
+impl TryFrom<u64> for PageCount {
+    type Error = Trouble;
+
+    ghost try_from_gives = { λ pages res. (IsOk res ↔ ((64 ≤ pages) × (pages ≤ 1048576))) × IfOk res (λ count. count.0 ≡ pages) };
+
+    fn try_from(pages: u64) -> Result<Self, Trouble> {
+        if FEWEST <= pages && pages <= MOST {
+            Ok(PageCount(pages))
+        } else {
+            Err(Trouble::Count)
+        }
+    }
+}
+
+impl FromStr for PageCount {
+    type Err = Trouble;
+
+    fn from_str(text: &str) -> Result<Self, Trouble> {
+        PageCount::try_from(text.parse::<u64>()?)
+    }
+}
 
 #[derive(Drop)]
 pub struct PageFile {
@@ -67,22 +109,13 @@ fn place_of(number: u64) -> u64
     number.saturating_mul(PAGE as u64)
 }
 
-// Whether a house can have so many pages.
-pub fn is_house(pages: u64) -> bool
-    ensures { result ≡ nat_le 64 pages && nat_le pages 1048576 }
-{
-    FEWEST <= pages && pages <= MOST
-}
-
 // How many pages a file of so many bytes has, if they are whole and a house can have so many.
 fn pages_in(bytes: u64) -> Result<u64, Trouble>
     ensures { IfOk result (λ n. (n * 512 ≡ bytes) × (64 ≤ n) × (n ≤ 1048576)) }
 {
-    let pages = bytes / PAGE as u64;
-    if bytes % PAGE as u64 == 0 && is_house(pages) {
-        Ok(pages)
-    } else {
-        Err(Trouble::Size(bytes))
+    match PageCount::try_from(bytes / PAGE as u64) {
+        Ok(count) if bytes % PAGE as u64 == 0 => Ok(count.0),
+        _ => Err(Trouble::Size(bytes)),
     }
 }
 

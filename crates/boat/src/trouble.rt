@@ -1,10 +1,27 @@
 // What stops the program.
+ghost use Rattle.std.specs.Prelude.{◌≡◌, ◌↔◌, ◌<◌, ◌≤◌, IfOk, IsOk};
+
 use std::alloc::{AllocError, AllocFailed};
+use std::num::ParseIntError;
 use std::{fmt, io};
 
-// The house refused with a number.
+// The house refused with a number, from 1 to 999.
 #[derive(Clone, Copy, Debug, PartialEq, Eq)]
 pub struct Refused(pub u64);
+
+impl TryFrom<u64> for Refused {
+    type Error = Trouble;
+
+    ghost try_from_gives = { λ number res. (IsOk res ↔ ((1 ≤ number) × (number < 1000))) × IfOk res (λ refused. refused.0 ≡ number) };
+
+    fn try_from(number: u64) -> Result<Self, Trouble> {
+        if 1 <= number && number < 1000 {
+            Ok(Refused(number))
+        } else {
+            Err(Trouble::Fault)
+        }
+    }
+}
 
 impl fmt::Display for Refused {
     fn fmt<W: fmt::Write>(&self, f: &mut fmt::Formatter<W>) -> fmt::Result {
@@ -33,6 +50,12 @@ pub enum Trouble {
     Fault,
     // A command made more acts than any should.
     Endless,
+}
+
+impl From<ParseIntError> for Trouble {
+    fn from(_error: ParseIntError) -> Trouble {
+        Trouble::Count
+    }
 }
 
 impl From<AllocError> for Trouble {
