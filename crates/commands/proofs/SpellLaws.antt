@@ -1,5 +1,5 @@
 -- A command's parts spell it, fit where it does, and are written one behind the other.
-use Rattle.std.proofs.Common.{◌≡◌, ℕ, ◌+◌, ◌<◌, ◌≤◌, Bool, true, false, ◌&&◌, ltb, leb, List, [], ◌∷◌, ◌++◌, length, take, drop, Some, None, sym, refl, ap, ◌∙◌, ap₂, append-nil, zero-add, arith, length-append, Bor}
+use Rattle.std.proofs.Common.{◌≡◌, ℕ, ◌+◌, ◌<◌, ◌≤◌, Bool, true, false, ◌&&◌, ltb, leb, List, [], ◌∷◌, ◌++◌, length, take, drop, Some, None, Option, sym, refl, ap, ◌∙◌, ap₂, append-nil, zero-add, arith, length-append, Bor}
 use mathlib.Core.Bool.{and-true}
 use lib.Seq.{paste}
 use Rattle.std.proofs.lemmas.List.Edits.{paste-paste, paste_all}
@@ -9,6 +9,7 @@ use Rattle.std.proofs.lemmas.Bool.Decides.{nat_tests}
 use Rattle.pages.specs.Bytes.{all_bytes}
 use Rattle.pages.proofs.BytesLaws.{all_bytes_in_bytes}
 use Rattle.commands.specs.Command.{spelled, fits}
+use Rattle.commands.specs.Kind.{kind_number}
 use Rattle.commands.specs.Laws.{ReadBack}
 use Rattle.commands.specs.Meaning.{meant}
 use Rattle.commands.specs.Parse.{within, if_so, parsed}
@@ -23,7 +24,7 @@ use Rattle.commands.proofs.ParseLaws.{all_bytes_row, parsed_back}
 -- ---- the parts spell the command
 
 abbrev pub both : Command → List ℕ
-both c = (parts_of c).kind ∷ (piece_bytes (parts_of c).first ++ piece_bytes (parts_of c).second)
+both c = kind_number (parts_of c).kind ∷ (piece_bytes (parts_of c).first ++ piece_bytes (parts_of c).second)
 
 one : (k : ℕ) (bs : List ℕ) → k ∷ bs ≡ k ∷ (bs ++ [])
 one k bs = ap (λ r. k ∷ r) (sym (append-nil bs))
@@ -52,17 +53,17 @@ parts_spell (Fetch house) = one 19 _
 
 -- ---- the parts fit where the command does
 
-abbrev pub real : Piece → Bool
+abbrev pub real : Option Piece → Bool
 real p = piece_fits p && all_bytes (piece_bytes p)
 
-row_real : (b : Bor (List ℕ)) (low high : ℕ) → (within low high (length b.now) && all_bytes b.now) ≡ real (Row b low high)
+row_real : (b : Bor (List ℕ)) (low high : ℕ) → (within low high (length b.now) && all_bytes b.now) ≡ real (Some (Row b low high))
 row_real b low high = ap (λ x. within low high (length b.now) && x) (sym (all_bytes_row b.now))
 
-text_real : (b : Bor (List ℕ)) → (ltb (length b.now) 65536 && all_bytes b.now) ≡ real (Row b 0 65535)
+text_real : (b : Bor (List ℕ)) → (ltb (length b.now) 65536 && all_bytes b.now) ≡ real (Some (Row b 0 65535))
 text_real b =
     let e : ltb (length b.now) 65536 ≡ within 0 65535 (length b.now) = grind (arith, nat_tests) in ap (λ x. x && all_bytes b.now) e ∙ row_real b 0 65535
 
-number_real : (n high : ℕ) → leb n high ≡ real (Number n high)
+number_real : (n high : ℕ) → leb n high ≡ real (Some (Number n high))
 unfolding all_bytes
 number_real n high = sym (ap (λ x. leb n high && x) (all_bytes_in_bytes 8 n []) ∙ and-true (leb n high))
 
@@ -117,8 +118,8 @@ module _ (c : Command) (out : List ℕ) (p : Parts) (e : p ≡ parts_of c) where
   fits_by : fits (meant c) ≡ (real p.first && real p.second)
   fits_by = parts_fit c ∙ sym (ap (λ q. real q.first && real q.second) e)
 
-  spelled_by : spelled (meant c) ≡ p.kind ∷ (piece_bytes p.first ++ piece_bytes p.second)
-  spelled_by = parts_spell c ∙ sym (ap (λ q. q.kind ∷ (piece_bytes q.first ++ piece_bytes q.second)) e)
+  spelled_by : spelled (meant c) ≡ kind_number p.kind ∷ (piece_bytes p.first ++ piece_bytes p.second)
+  spelled_by = parts_spell c ∙ sym (ap (λ q. kind_number q.kind ∷ (piece_bytes q.first ++ piece_bytes q.second)) e)
 
   length_by : length (spelled (meant c)) ≡ 1 + length (piece_bytes p.first) + length (piece_bytes p.second)
   length_by = omega (arith, ap length spelled_by, length-append (piece_bytes p.first) (piece_bytes p.second))
@@ -149,12 +150,12 @@ module _ (c : Command) (out : List ℕ) (p : Parts) (e : p ≡ parts_of c) where
 
       pub accepted : 1 + m + n ≤ length out → all_bytes (piece_bytes p.first) ≡ true → all_bytes (piece_bytes p.second) ≡ true
           → (Some (1 + length (piece_bytes p.first) + length (piece_bytes p.second)) ≡ spelled_size (meant c) out)
-          × (written out 0 (p.kind ∷ (piece_bytes p.first ++ piece_bytes p.second)) ≡ spelled_over (meant c) out)
+          × (written out 0 (kind_number p.kind ∷ (piece_bytes p.first ++ piece_bytes p.second)) ≡ spelled_over (meant c) out)
       unfolding has_room spelled_size spelled_over
       accepted h b d =
           let fit : fits (meant c) ≡ true = fits_by ∙ and_from _ _ (and_from _ _ (if_so_some _ _ m hm).0 b) (and_from _ _ (if_so_some _ _ n hn).0 d) in
           let room : has_room (meant c) out ≡ true = and_from _ _ fit (le-leb (length (spelled (meant c))) (length out) (omega (arith, length_of))) in
-          let s = p.kind ∷ (piece_bytes p.first ++ piece_bytes p.second) in (
+          let s = kind_number p.kind ∷ (piece_bytes p.first ++ piece_bytes p.second) in (
             ap Some (sym length_by) ∙ sym (cond-true _ _ _ room),
             written_front out s ∙ sym (cond-true _ _ _ room ∙ ap (λ s. s ++ drop (length s) out) spelled_by),
           )

@@ -1,4 +1,5 @@
 pub mod Command
+pub mod Kind
 pub mod Laws
 pub mod Parse
 pub mod Meaning

@@ -1,3 +1,8 @@
+ghost use Rattle.std.specs.Prelude.{◌≡◌};
+ghost use Rattle.commands.specs.Kind.{kind_of};
+
+use crate::kind::Kind;
+
 // What can be asked of a house. Names, paths and texts are lent from where the command was read.
 #[derive(Clone, Copy, Debug, PartialEq, Eq)]
 pub enum Command<'a> {
@@ -34,4 +39,32 @@ pub enum Command<'a> {
     Sweep,
     // from another house
     Fetch(u64),
+}
+
+impl Command<'_> {
+    pub fn kind(self) -> Kind
+        ensures { result ≡ kind_of self.entry }
+    {
+        match self {
+            Command::WriteFile(_, _) => Kind::WriteFile,
+            Command::DropFile(_) => Kind::DropFile,
+            Command::Commit(_, _) => Kind::Commit,
+            Command::Branch(_) => Kind::Branch,
+            Command::GoTo(_) => Kind::GoTo,
+            Command::History => Kind::History,
+            Command::ShowFile(_, _) => Kind::ShowFile,
+            Command::Status => Kind::Status,
+            Command::ReadFile(_) => Kind::ReadFile,
+            Command::Join(_) => Kind::Join,
+            Command::Settle(_) => Kind::Settle,
+            Command::Leave => Kind::Leave,
+            Command::MoveOnto(_) => Kind::MoveOnto,
+            Command::Carry(_) => Kind::Carry,
+            Command::Forget(_) => Kind::Forget,
+            Command::Tag(_) => Kind::Tag,
+            Command::Who(_) => Kind::Who,
+            Command::Sweep => Kind::Sweep,
+            Command::Fetch(_) => Kind::Fetch,
+        }
+    }
 }

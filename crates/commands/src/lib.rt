@@ -2,6 +2,7 @@
 #![tactic(auto)]
 
 mod command;
+mod kind;
 pub mod laws;
 mod parts;
 mod reader;
@@ -9,6 +10,7 @@ mod refusal;
 mod writer;
 
 pub use command::Command;
+pub use kind::{Kind, NoKind};
 pub use reader::parse;
 pub use refusal::{NoRefusal, Refusal};
 pub use writer::spell;

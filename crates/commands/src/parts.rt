@@ -1,3 +1,5 @@
+use crate::kind::Kind;
+
 // The longest name, the longest name with a mark in front, and the longest text.
 pub const NAME: u16 = 64;
 
@@ -8,15 +10,13 @@ pub const TEXT: u16 = 65535;
 // A command as its spelling has it: a kind, and up to two pieces behind it.
 #[derive(Clone, Copy)]
 pub struct Parts<'a> {
-    pub kind: u8,
-    pub first: Piece<'a>,
-    pub second: Piece<'a>,
+    pub kind: Kind,
+    pub first: Option<Piece<'a>>,
+    pub second: Option<Piece<'a>>,
 }
 
 #[derive(Clone, Copy)]
 pub enum Piece<'a> {
-    // As it stands: no bytes, which always fit, so that each command has two pieces and one function writes each.
-    Nothing,
     // a number, and the highest that it may be
     Number(u64, u64),
     // bytes, and the fewest and the most that there may be

@@ -1,8 +1,10 @@
 ghost use Rattle.std.specs.Prelude.{◌≡◌};
-ghost use Rattle.commands.specs.Meaning.{meaning, meant};
-ghost use Rattle.commands.specs.Parse.{Answers, behind, first_row, if_so, of_kind, one_house, one_row, parsed, past_row, two_rows};
+ghost use Rattle.commands.specs.Kind.{kind_number};
+ghost use Rattle.commands.specs.Meaning.{meaning};
+ghost use Rattle.commands.specs.Parse.{Answers, behind, first_row, of_kind, one_house, one_row, parsed, past_row, two_rows};
 
 use crate::command::Command;
+use crate::kind::Kind;
 use crate::parts::{NAME, REF, TEXT};
 use pages::bytes::number;
 
@@ -52,48 +54,36 @@ fn is_house(text: &[u8]) -> bool
     text.len() == 8 && number(text) < 16
 }
 
-// The command, if the test holds; a name for `then_some`, by which `read` is proved with no answers.
-fn when<'a>(so: bool, command: Command<'a>) -> Option<Command<'a>>
-    ensures { meaning result ≡ if_so so (meant command.entry) }
-{
-    so.then_some(command)
-}
-
 // The command of a kind from what stands behind the kind.
-fn read<'a>(kind: u8, text: &'a [u8]) -> Option<Command<'a>>
-    ensures { meaning result ≡ of_kind kind text.now }
+fn read<'a>(kind: Kind, text: &'a [u8]) -> Option<Command<'a>>
+    ensures { meaning result ≡ of_kind (kind_number kind) text.now }
 {
     let size = number(text);
     let body = after(text);
     let (row, rest) = cut(text);
-    // As it stands: the numbers are the format, and an enum of the kinds would spell them a third time.
+    let next = after(rest);
     match kind {
-        1 => when(
-            is_two_rows(text, NAME, 0, TEXT),
-            Command::WriteFile(row, after(rest)),
-        ),
-        2 => when(is_row(text, 1, NAME), Command::DropFile(body)),
-        3 => when(is_row(body, 0, TEXT), Command::Commit(size, after(body))),
-        4 => when(is_row(text, 1, NAME), Command::Branch(body)),
-        5 => when(is_row(text, 1, NAME), Command::GoTo(body)),
-        6 => when(text.is_empty(), Command::History),
-        7 => when(
-            is_two_rows(text, REF, 1, NAME),
-            Command::ShowFile(row, after(rest)),
-        ),
-        8 => when(text.is_empty(), Command::Status),
-        9 => when(is_row(text, 1, NAME), Command::ReadFile(body)),
-        10 => when(is_row(text, 1, REF), Command::Join(body)),
-        11 => when(is_row(text, 1, NAME), Command::Settle(body)),
-        12 => when(text.is_empty(), Command::Leave),
-        13 => when(is_row(text, 1, REF), Command::MoveOnto(body)),
-        14 => when(is_row(text, 1, NAME), Command::Carry(body)),
-        15 => when(is_row(text, 1, NAME), Command::Forget(body)),
-        16 => when(is_row(text, 1, NAME), Command::Tag(body)),
-        17 => when(is_row(text, 1, NAME), Command::Who(body)),
-        18 => when(text.is_empty(), Command::Sweep),
-        19 => when(is_house(text), Command::Fetch(size)),
-        _ => None,
+        Kind::WriteFile => is_two_rows(text, NAME, 0, TEXT).then_some(Command::WriteFile(
+            row, next,
+        )),
+        Kind::DropFile => is_row(text, 1, NAME).then_some(Command::DropFile(body)),
+        Kind::Commit => is_row(body, 0, TEXT).then_some(Command::Commit(size, after(body))),
+        Kind::Branch => is_row(text, 1, NAME).then_some(Command::Branch(body)),
+        Kind::GoTo => is_row(text, 1, NAME).then_some(Command::GoTo(body)),
+        Kind::History => text.is_empty().then_some(Command::History),
+        Kind::ShowFile => is_two_rows(text, REF, 1, NAME).then_some(Command::ShowFile(row, next)),
+        Kind::Status => text.is_empty().then_some(Command::Status),
+        Kind::ReadFile => is_row(text, 1, NAME).then_some(Command::ReadFile(body)),
+        Kind::Join => is_row(text, 1, REF).then_some(Command::Join(body)),
+        Kind::Settle => is_row(text, 1, NAME).then_some(Command::Settle(body)),
+        Kind::Leave => text.is_empty().then_some(Command::Leave),
+        Kind::MoveOnto => is_row(text, 1, REF).then_some(Command::MoveOnto(body)),
+        Kind::Carry => is_row(text, 1, NAME).then_some(Command::Carry(body)),
+        Kind::Forget => is_row(text, 1, NAME).then_some(Command::Forget(body)),
+        Kind::Tag => is_row(text, 1, NAME).then_some(Command::Tag(body)),
+        Kind::Who => is_row(text, 1, NAME).then_some(Command::Who(body)),
+        Kind::Sweep => text.is_empty().then_some(Command::Sweep),
+        Kind::Fetch => is_house(text).then_some(Command::Fetch(size)),
     }
 }
 
@@ -102,6 +92,7 @@ pub fn parse<'a>(text: &'a [u8]) -> Option<Command<'a>>
     ensures is { meaning result ≡ parsed text.now }
     ensures answers { Answers text.now (meaning result) }
 {
-    let (kind, rest) = text.split_first()?;
-    read(*kind, rest)
+    let (first, rest) = text.split_first()?;
+    let kind = Kind::try_from(*first).ok()?;
+    read(kind, rest)
 }

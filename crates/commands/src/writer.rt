@@ -20,34 +20,32 @@ fn name<'a>(bytes: &'a [u8]) -> Piece<'a>
 fn parts<'a>(command: Command<'a>) -> Parts<'a>
     ensures { result ≡ parts_of command.entry }
 {
-    let none = Piece::Nothing;
-    let (kind, first, second) = match command {
-        Command::WriteFile(path, bytes) => (1, name(path), Piece::Row(bytes, 0, TEXT)),
-        Command::DropFile(path) => (2, name(path), none),
+    let (first, second) = match command {
+        Command::WriteFile(path, bytes) => (Some(name(path)), Some(Piece::Row(bytes, 0, TEXT))),
+        Command::DropFile(path) => (Some(name(path)), None),
         Command::Commit(stamp, words) => (
-            3,
-            Piece::Number(stamp, u64::MAX),
-            Piece::Row(words, 0, TEXT),
+            Some(Piece::Number(stamp, u64::MAX)),
+            Some(Piece::Row(words, 0, TEXT)),
         ),
-        Command::Branch(branch) => (4, name(branch), none),
-        Command::GoTo(branch) => (5, name(branch), none),
-        Command::History => (6, none, none),
-        Command::ShowFile(branch, path) => (7, Piece::Row(branch, 1, REF), name(path)),
-        Command::Status => (8, none, none),
-        Command::ReadFile(path) => (9, name(path), none),
-        Command::Join(branch) => (10, Piece::Row(branch, 1, REF), none),
-        Command::Settle(path) => (11, name(path), none),
-        Command::Leave => (12, none, none),
-        Command::MoveOnto(branch) => (13, Piece::Row(branch, 1, REF), none),
-        Command::Carry(id) => (14, name(id), none),
-        Command::Forget(branch) => (15, name(branch), none),
-        Command::Tag(tag) => (16, name(tag), none),
-        Command::Who(path) => (17, name(path), none),
-        Command::Sweep => (18, none, none),
-        Command::Fetch(house) => (19, Piece::Number(house, 15), none),
+        Command::Branch(branch) => (Some(name(branch)), None),
+        Command::GoTo(branch) => (Some(name(branch)), None),
+        Command::History => (None, None),
+        Command::ShowFile(branch, path) => (Some(Piece::Row(branch, 1, REF)), Some(name(path))),
+        Command::Status => (None, None),
+        Command::ReadFile(path) => (Some(name(path)), None),
+        Command::Join(branch) => (Some(Piece::Row(branch, 1, REF)), None),
+        Command::Settle(path) => (Some(name(path)), None),
+        Command::Leave => (None, None),
+        Command::MoveOnto(branch) => (Some(Piece::Row(branch, 1, REF)), None),
+        Command::Carry(id) => (Some(name(id)), None),
+        Command::Forget(branch) => (Some(name(branch)), None),
+        Command::Tag(tag) => (Some(name(tag)), None),
+        Command::Who(path) => (Some(name(path)), None),
+        Command::Sweep => (None, None),
+        Command::Fetch(house) => (Some(Piece::Number(house, 15)), None),
     };
     Parts {
-        kind,
+        kind: command.kind(),
         first,
         second,
     }
@@ -67,12 +65,14 @@ fn row_size(count: usize, fewest: u16, most: u16) -> Option<usize>
 }
 
 // How many bytes a piece is spelled with, or none where it does not fit.
-fn measure(piece: Piece) -> Option<usize>
+fn measure(piece: Option<Piece>) -> Option<usize>
     ensures is { result ≡ if_so (piece_fits piece.entry) (length (piece_bytes piece.entry)) }
     ensures small { IfSome result (λ n. n ≤ 65543) }
 {
+    let Some(piece) = piece else {
+        return Some(0);
+    };
     match piece {
-        Piece::Nothing => Some(0),
         Piece::Number(n, most) => if n <= most { Some(8) } else { None },
         Piece::Row(bytes, fewest, most) => row_size(bytes.len(), fewest, most),
     }
@@ -102,14 +102,16 @@ fn put_row(out: &mut [u8], at: usize, bytes: &[u8]) -> usize
 }
 
 // Writes a piece over the row from `at` on, and says where it ends.
-fn put_piece(out: &mut [u8], at: usize, piece: Piece) -> usize
+fn put_piece(out: &mut [u8], at: usize, piece: Option<Piece>) -> usize
     requires { at + length (piece_bytes piece) ≤ length out.old }
     ensures row { out.new ≡ written out.old at (piece_bytes piece.entry) }
     ensures end { result ≡ at + length (piece_bytes piece.entry) }
     ensures real { all_bytes (piece_bytes piece.entry) ≡ true }
 {
+    let Some(piece) = piece else {
+        return at;
+    };
     match piece {
-        Piece::Nothing => at,
         Piece::Number(n, _) => put(out, at, &in_eight(n)),
         Piece::Row(bytes, _, _) => put_row(out, at, bytes),
     }
@@ -131,7 +133,7 @@ pub fn spell(command: Command, out: &mut [u8]) -> Option<usize>
     if out.len() < 1 + first_size + second_size {
         return None;
     }
-    let behind_kind = put(out, 0, &[kind]);
+    let behind_kind = put(out, 0, &[kind.number()]);
     let behind_first = put_piece(out, behind_kind, first);
     Some(put_piece(out, behind_first, second))
 }

@@ -341,7 +341,7 @@ impl Bench {
     fn right_answer(&mut self, c: usize, text: &[u8]) -> Result<Answer, AllocError> {
         match parse(text) {
             None => Ok(self.refused(Refusal::NoCommand)),
-            Some(command) if is_known(text) => self.turn(c, command),
+            Some(command) if is_known(command.kind()) => self.turn(c, command),
             Some(_) => Ok(self.refused(Refusal::NotKnown)),
         }
     }

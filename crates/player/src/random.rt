@@ -2,9 +2,9 @@
 ghost use Rattle.std.specs.Prelude.{◌<◌};
 
 use crate::day::{LONG_LINE, Stop, What};
-use crate::engine::KNOWN;
+use crate::engine::is_known;
 use crate::text::spelled;
-use commands::Command;
+use commands::{Command, Kind};
 use device::Left;
 use plain::houses::Plain;
 use std::alloc::{AllocError, Global};
@@ -96,51 +96,58 @@ impl Dice {
         Ok(row)
     }
 
-    // The kind of a command: mostly of one that is known.
-    fn kind(&mut self) -> u64 {
+    // The kind of a command, or none: mostly one that is known.
+    fn kind(&mut self) -> Option<Kind> {
         for _ in 0..8 {
-            let k = self.below(20);
-            if KNOWN[k as usize] {
-                return k;
+            let kind = self.any_kind();
+            if kind.is_some_and(is_known) {
+                return kind;
             }
         }
-        self.below(20)
+        self.any_kind()
     }
 
-    // The bytes of a command of a kind; where it is 0, or where they do not fit, bytes that spell none.
-    fn command(&mut self, plain: &Plain, kind: u64) -> Result<Vec<u8>, AllocError> {
+    // The kind of a number below 20: none is of 0.
+    fn any_kind(&mut self) -> Option<Kind> {
+        Kind::try_from(self.below(20) as u8).ok()
+    }
+
+    // The bytes of a command of a kind; where there is none, or where they do not fit, bytes that spell none.
+    fn command(&mut self, plain: &Plain, kind: Option<Kind>) -> Result<Vec<u8>, AllocError> {
+        let Some(kind) = kind else {
+            return self.bytes();
+        };
         let heap = self.heap;
         let houses = plain.houses.len() as u64;
         let text = match kind {
-            1 => {
+            Kind::WriteFile => {
                 let path = self.path();
                 spelled(heap, Command::WriteFile(path, self.bytes()?.as_slice()))?
             }
-            2 => spelled(heap, Command::DropFile(self.path()))?,
-            3 => {
+            Kind::DropFile => spelled(heap, Command::DropFile(self.path()))?,
+            Kind::Commit => {
                 let stamp = self.below(6);
                 spelled(heap, Command::Commit(stamp, self.bytes()?.as_slice()))?
             }
-            4 => spelled(heap, Command::Branch(self.name()))?,
-            5 => spelled(heap, Command::GoTo(self.name()))?,
-            6 => spelled(heap, Command::History)?,
-            7 => {
+            Kind::Branch => spelled(heap, Command::Branch(self.name()))?,
+            Kind::GoTo => spelled(heap, Command::GoTo(self.name()))?,
+            Kind::History => spelled(heap, Command::History)?,
+            Kind::ShowFile => {
                 let name = self.far_name(houses)?;
                 spelled(heap, Command::ShowFile(name.as_slice(), self.path()))?
             }
-            8 => spelled(heap, Command::Status)?,
-            9 => spelled(heap, Command::ReadFile(self.path()))?,
-            10 => spelled(heap, Command::Join(self.far_name(houses)?.as_slice()))?,
-            11 => spelled(heap, Command::Settle(self.path()))?,
-            12 => spelled(heap, Command::Leave)?,
-            13 => spelled(heap, Command::MoveOnto(self.far_name(houses)?.as_slice()))?,
-            14 => spelled(heap, Command::Carry(self.id(plain)?.as_slice()))?,
-            15 => spelled(heap, Command::Forget(self.name()))?,
-            16 => spelled(heap, Command::Tag(self.name()))?,
-            17 => spelled(heap, Command::Who(self.path()))?,
-            18 => spelled(heap, Command::Sweep)?,
-            19 => spelled(heap, Command::Fetch(self.below(houses.saturating_add(1))))?,
-            _ => None,
+            Kind::Status => spelled(heap, Command::Status)?,
+            Kind::ReadFile => spelled(heap, Command::ReadFile(self.path()))?,
+            Kind::Join => spelled(heap, Command::Join(self.far_name(houses)?.as_slice()))?,
+            Kind::Settle => spelled(heap, Command::Settle(self.path()))?,
+            Kind::Leave => spelled(heap, Command::Leave)?,
+            Kind::MoveOnto => spelled(heap, Command::MoveOnto(self.far_name(houses)?.as_slice()))?,
+            Kind::Carry => spelled(heap, Command::Carry(self.id(plain)?.as_slice()))?,
+            Kind::Forget => spelled(heap, Command::Forget(self.name()))?,
+            Kind::Tag => spelled(heap, Command::Tag(self.name()))?,
+            Kind::Who => spelled(heap, Command::Who(self.path()))?,
+            Kind::Sweep => spelled(heap, Command::Sweep)?,
+            Kind::Fetch => spelled(heap, Command::Fetch(self.below(houses.saturating_add(1))))?,
         };
         match text {
             Some(row) => Ok(row),

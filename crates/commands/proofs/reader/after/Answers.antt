@@ -1,4 +1,4 @@
-use Rattle.std.proofs.Common.{◌≡◌, ◌-◌, length, take, drop, sym, ◌∙◌, arith, rules}
+use Rattle.std.proofs.Common.{◌≡◌, ◌-◌, length, take, drop, sym, ◌∙◌, rules}
 use Rattle.std.proofs.lemmas.List.{take_rest, drop_all}
 use Rattle.commands.proofs.reader.after.Goals as goal
 
