@@ -1,6 +1,8 @@
 -- Bytes in hexadecimal, and back.
-use Rattle.std.proofs.Common.{◌≡◌, ℕ, ◌+◌, ◌-◌, ◌*◌, ◌/◌, ◌%◌, ◌<◌, ◌≤◌, Bool, true, ◌&&◌, ltb, List, [], ◌∷◌, ◌++◌, length, get_or, take, drop, Some, None, Option, sym, refl, ap, ◌∙◌, append_assoc, arith}
-use Rattle.std.proofs.lemmas.List.{take_more, take_all}
+use Rattle.std.proofs.Common.{◌≡◌, ℕ, ◌+◌, ◌*◌, ◌/◌, ◌%◌, ◌<◌, ◌≤◌, Bool, true, ◌&&◌, ltb, List, [], ◌∷◌, ◌++◌, length, get_or, take, drop, Some, None, Option, sym, refl, ap, ◌∙◌, append_assoc, arith, zero, suc, eqb, Vec, Global, vec_items, MatchOption, append-nil}
+use Rattle.std.specs.Simd.{first_chunks}
+use Rattle.std.specs.Bool.{then_some}
+use Rattle.std.proofs.lemmas.List.{take_more}
 use Rattle.std.proofs.lemmas.Bool.Decides.{nat_tests}
 use Rattle.pages.specs.Bytes.{all_bytes}
 use Rattle.lines.specs.Hex.{ReadBack, before, byte_read, bytes_read, digit, digit_read, digits}
@@ -45,11 +47,39 @@ pub digits_more : (bytes : List ℕ) (i : ℕ) (old items items' items'' : List 
 digits_more bytes i old items items' items'' h e f g =
     rw (g, f, e, take_more bytes i 0 h, digits-++ (take i bytes) (get_or bytes i 0 ∷ [])) (simp append_assoc)
 
-pub front_two : (xs : List ℕ) → 2 ≤ length xs → xs ≡ get_or xs 0 0 ∷ get_or xs 1 0 ∷ take (length xs - 2) (drop 2 xs)
-front_two [] h = let z : ⊥ = omega arith in elim z [ ]
-front_two (x ∷ []) h = let z : ⊥ = omega arith in elim z [ ]
-front_two (x ∷ y ∷ zs) h =
-    let l : length zs ≤ length (x ∷ y ∷ zs) - 2 = omega arith in ap (λ r. x ∷ y ∷ r) (sym (take_all (length (x ∷ y ∷ zs) - 2) zs l))
+pub pair_at : (k i : ℕ) (xs : List ℕ) → i < k → 2 * k ≤ length xs →
+    drop (2 * i) xs ≡ get_or (get_or (first_chunks 2 k xs) i []) 0 0 ∷ get_or (get_or (first_chunks 2 k xs) i []) 1 0 ∷ drop (2 * (i + 1)) xs
+pair_at zero i xs lt h = absurd (omega arith)
+pair_at (suc k) i [] lt h = absurd (omega arith)
+pair_at (suc k) i (x ∷ []) lt h = absurd (omega arith)
+pair_at (suc k) zero (x ∷ y ∷ zs) lt h = refl
+pair_at (suc k) (suc i) (x ∷ y ∷ zs) lt h =
+    let a : 2 * suc i ≡ suc (suc (2 * i)) = omega arith in
+    let b : suc (suc (2 * (i + 1))) ≡ 2 * (suc i + 1) = omega arith in
+    ap (λ m. drop m (x ∷ y ∷ zs)) a ∙ pair_at k i zs (omega arith) (omega arith)
+    ∙ ap (λ m. get_or (get_or (first_chunks 2 k zs) i []) 0 0 ∷ get_or (get_or (first_chunks 2 k zs) i []) 1 0 ∷ drop m (x ∷ y ∷ zs)) b
+
+-- the pairs and what is left behind them
+pub next_pair : (xs : List ℕ) (ps : List (List ℕ)) (i : ℕ) → ps ≡ first_chunks 2 (length xs / 2) xs → i < length ps → length ps ≡ length xs / 2 →
+    drop (2 * i) xs ≡ get_or (get_or ps i []) 0 0 ∷ get_or (get_or ps i []) 1 0 ∷ drop (2 * (i + 1)) xs
+next_pair xs ps i e lt l =
+    pair_at (length xs / 2) i xs (omega arith) (omega arith)
+    ∙ ap (λ qs. get_or (get_or qs i []) 0 0 ∷ get_or (get_or qs i []) 1 0 ∷ drop (2 * (i + 1)) xs) (sym e)
+
+none_before : (items : List ℕ) (o : Option (List ℕ)) → behind items (before None o) ≡ None
+none_before items (Some ys) = refl
+none_before items None = refl
+
+pub read_none : (text rest after items : List ℕ) (high low : ℕ) → bytes_read text ≡ behind items (bytes_read rest) → rest ≡ high ∷ low ∷ after
+    → None ≡ byte_read high low → bytes_read text ≡ None
+read_none text rest after items high low inv e r =
+    inv ∙ ap (λ t. behind items (bytes_read t)) e ∙ ap (λ o. behind items (before o (bytes_read after))) (sym r) ∙ none_before items (bytes_read after)
+
+pub read_all : (text odd : List ℕ) (v : Vec ℕ Global) → length odd < 2 → bytes_read text ≡ behind (vec_items v) (bytes_read odd) →
+    MatchOption (then_some (eqb (length odd) 0) v) (bytes_read text ≡ None) (λ w. bytes_read text ≡ Some w.items)
+read_all text [] v h e = e ∙ ap Some (append-nil (vec_items v))
+read_all text (d ∷ []) v h e = e
+read_all text (d ∷ f ∷ ds) v h e = absurd (omega arith)
 
 -- one byte more is read
 pub read_more : (text rest after items items' : List ℕ) (high low b : ℕ) → bytes_read text ≡ behind items (bytes_read rest) → rest ≡ high ∷ low ∷ after

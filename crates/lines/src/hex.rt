@@ -58,16 +58,15 @@ pub fn line_of(heap: Global, bytes: &[u8]) -> Result<String, AllocError>
 pub fn bytes_of(heap: Global, text: &[u8]) -> Result<Option<Vec<u8>>, AllocError>
     ensures { IfOk result (λ o. MatchOption o (bytes_read text.now ≡ None) (λ v. bytes_read text.now ≡ Some v.items)) }
 {
+    let (pairs, odd) = text.as_chunks::<2>();
     let mut bytes = Vec::new(heap);
-    let mut rest = text;
-    while let [high, low, after @ ..] = rest {
+    for [high, low] in pairs {
         let Some(byte) = byte_of(*high, *low) else {
             return Ok(None);
         };
         bytes.push(byte)?;
-        rest = after;
     }
-    Ok(rest.is_empty().then_some(bytes))
+    Ok(odd.is_empty().then_some(bytes))
 }
 
 /// Bytes in hexadecimal are read back as they were.

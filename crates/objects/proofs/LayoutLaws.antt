@@ -1,8 +1,7 @@
 -- Files, commits and names as they are put together and read; bytes in words and back. Assumes nothing.
 use Rattle.std.proofs.Common.{◌≡◌, ℕ, zero, suc, ◌+◌, ◌-◌, ◌*◌, ◌<◌, ◌≤◌, min, Bool, true, ◌&&◌, eqb, leb, List, ◌∷◌, ◌++◌, length, take, drop, set, Some, None, sym, refl, ap, ◌∙◌, ap₂, ⊎_elim, arith, length-append, length-drop}
-use borrow.Rule.Slice.PartMut.{post_of}
 use lib.Seq.{take-append-add}
-use Rattle.std.proofs.lemmas.List.{append-nil, drop-append-le, drop_at, drop-take, length-take-le, take_all, take-append-le, take_at, take-take}
+use Rattle.std.proofs.lemmas.List.{append-nil, drop-append-le, drop_all, drop_at, drop-drop, drop-take, length-take, length-take-le, take_all, take_min, nil_from_length, take-append-le, take_at, take-take}
 use Rattle.std.proofs.lemmas.Bool.{and_from, and_parts, cases_lt, eq-eqb, le-leb, leb-true}
 use Rattle.pages.specs.Bytes.{all_bytes, from_bytes}
 use Rattle.pages.specs.Lists.{pick, zeros}
@@ -107,31 +106,52 @@ eight_padded d h =
     take-append-le 8 d (zeros 7) hi ∙ sym (ap (λ n. take n d ++ zeros (8 - n)) k ∙ no_zeros (take 8 d)))
     (cases_lt (length d) 8)
 
-pub eight_made : (bs : List ℕ) (i many : ℕ) (ys zs : List ℕ) → 8 * i < length bs → many ≡ min (length bs - 8 * i) 8 → ys ≡ take many (drop (8 * i) bs) → zs ≡ zeros 8 →
-    ys ++ post_of 0 (many - 0) zs ≡ eight_of i bs
-eight_made bs i many ys zs h e f g =
-    ap₂ (λ a b. a ++ b) f (ap₂ drop all g ∙ behind_zeros many 8 (omega arith))
-    ∙ ap (λ n. take n d ++ zeros (8 - n)) short ∙ sym (eight_padded (drop (8 * i) bs) (omega (arith, length-drop (8 * i) bs)))
+pub padded_made : (bs ys zs : List ℕ) → length bs ≤ 8 → ys ≡ bs → zs ≡ zeros 8 → ys ++ drop (length bs) zs ≡ bs ++ zeros (8 - length bs)
+padded_made bs ys zs h e f = ap₂ (λ a b. a ++ b) e (ap (drop (length bs)) f ∙ behind_zeros (length bs) 8 h)
+
+-- the i-th eight bytes with zeros behind them
+eight_is : (bs : List ℕ) (i : ℕ) → 8 * i < length bs → take 8 (drop (8 * i) bs) ++ zeros (8 - length (take 8 (drop (8 * i) bs))) ≡ eight_of i bs
+eight_is bs i h =
+    ap₂ (λ a n. a ++ zeros (8 - n)) (sym (take_min 8 d) ∙ ap (λ n. take n d) least) (length-take 8 d ∙ least) ∙ sym (eight_padded d (omega (arith, length-drop (8 * i) bs)))
     ∙ ap (take 8) (sym (drop-append-le (8 * i) bs (zeros 7) (omega arith)))
   where
     d : List ℕ
     d = drop (8 * i) bs
 
-    all : many - 0 ≡ many
-    all = omega arith
+    least : min 8 (length (drop (8 * i) bs)) ≡ min (length (drop (8 * i) bs)) 8
+    least = omega arith
 
-    short : many ≡ min (length (drop (8 * i) bs)) 8
-    short = omega (arith, length-drop (8 * i) bs)
+-- a chunk of eight bytes, or of the last ones
+pub chunk_is : (bs xs x rest : List ℕ) (i : ℕ) → xs ≡ drop (8 * i) bs → xs ≡ x ++ rest → length x ≡ min 8 (length xs) → 0 < length xs →
+    (8 * i < length bs) × (rest ≡ drop (8 * (i + 1)) bs) × (x ≡ take 8 (drop (8 * i) bs))
+chunk_is bs xs x rest i e f l h = (omega (arith, length-drop (8 * i) bs, ap length e), behind, front)
+  where
+    front : x ≡ take 8 (drop (8 * i) bs)
+    front = sym (take_at x rest (min 8 (length xs)) l) ∙ ap (take (min 8 (length xs))) (sym f) ∙ take_min 8 xs ∙ ap (take 8) e
+
+    on : drop 8 xs ≡ drop (8 * (i + 1)) bs
+    on = let k : 8 * i + 8 ≡ 8 * (i + 1) = omega arith in ap (drop 8) e ∙ drop-drop 8 (8 * i) bs ∙ ap (λ n. drop n bs) k
+
+    all : length xs ≡ length x + length rest
+    all = ap length f ∙ length-append x rest
+
+    behind : rest ≡ drop (8 * (i + 1)) bs
+    behind =
+        ⊎_elim
+        (λ (lo : length xs < 8). nil_from_length rest (omega (arith, all, l)) ∙ sym (drop_all 8 xs (omega arith)) ∙ on)
+        (λ (hi : 8 ≤ length xs). sym (drop_at x rest 8 (omega (arith, l))) ∙ ap (drop 8) (sym f) ∙ on) (cases_lt (length xs) 8)
 
 -- word by word
 pub put_none : (bs m : List ℕ) (at : ℕ) → at ≤ length m → m ≡ over at (words 0 (bs ++ zeros 7)) m
 unfolding words
 put_none bs m at h = sym (over_nothing at m h)
 
-pub put_more : (bs m x : List ℕ) (at i : ℕ) → at + i < length m → x ≡ over at (words i (bs ++ zeros 7)) m →
-    set x (at + i) (from_bytes 0 (take 8 (eight_of i bs))) ≡ over at (words (i + 1) (bs ++ zeros 7)) m
-put_more bs m x at i h e =
-    ap (λ z. set x (at + i) (from_bytes 0 z)) (take-take 8 8 (drop (8 * i) (bs ++ zeros 7)) (omega arith))
+pub put_more : (bs m x w : List ℕ) (at i : ℕ) → 8 * i < length bs → at + i < length m → x ≡ over at (words i (bs ++ zeros 7)) m →
+    w ≡ take 8 (drop (8 * i) bs) ++ zeros (8 - length (take 8 (drop (8 * i) bs))) →
+    set x (at + i) (from_bytes 0 (take 8 w)) ≡ over at (words (i + 1) (bs ++ zeros 7)) m
+put_more bs m x w at i l h e f =
+    ap (λ z. set x (at + i) (from_bytes 0 (take 8 z))) (f ∙ eight_is bs i l)
+    ∙ ap (λ z. set x (at + i) (from_bytes 0 z)) (take-take 8 8 (drop (8 * i) (bs ++ zeros 7)) (omega arith))
     ∙ ap₂ (λ y k. set y k (from_bytes 0 (eight_of i bs))) e place
     ∙ over_push at (words i (bs ++ zeros 7)) m (from_bytes 0 (eight_of i bs)) (omega (arith, length_words i (bs ++ zeros 7)))
     ∙ ap (λ z. over at z m) (sym (words_more i (bs ++ zeros 7)))

@@ -1,6 +1,6 @@
 -- Marking meets each live object once, and all of them. Assumes nothing.
 use Rattle.std.proofs.Common.{◌≡◌, ℕ, zero, suc, ◌+◌, ◌-◌, ◌*◌, ◌<◌, ◌≤◌, min, Bool, true, false, ◌&&◌, eqb, ltb, leb, ◌⊎◌, List, [], ◌∷◌, ◌++◌, length, get_or, take, drop, Some, None, Option, sym, refl, ap, ◌∙◌, subst, ap₂, inl, inr, arith, length-drop}
-use Rattle.std.proofs.lemmas.List.{get_or_append_left, get_or-take, get_or-drop, length-take-le, take_all, take_more}
+use Rattle.std.proofs.lemmas.List.{get_or_append_left, get_or-take, get_or-drop, length-take-le, take_all, take_at, take_more, take-append-drop, drop_at, drop-drop}
 use Rattle.std.proofs.lemmas.Bool.{cases_lt, cases_order, both_ways, eq-eqb, lt-ltb, le-ltb, le-leb, ltb-true, leb-true, eqb-true, and_parts, and_from}
 use Rattle.pages.specs.Lists.{pick, every, has, same, zeros, added_up}
 use Rattle.pages.specs.Words.{over, small}
@@ -20,21 +20,7 @@ use Rattle.objects.specs.declared.mark.Key.{Key}
 use Rattle.objects.specs.declared.mark.Walk.{Walk}
 use borrow.Rule.Slice.PartMut.{put_mid}
 use Rattle.store.proofs.BitLaws.{all_clear, bits_set, set_here, run_set, small_with_bit, small_with_run, finds}
-use Rattle.objects.proofs.PlanLaws.{
-  part_of_front,
-  part_of_append,
-  over_drop,
-  over_behind,
-  length_map_of,
-  length_with_map,
-  map_of_with_map,
-  with_map_again,
-  with_map_same,
-  before_map,
-  behind_map,
-  part_before_map,
-  put_map,
-}
+use Rattle.objects.proofs.PlanLaws.{part_of_front, part_of_append, over_drop, over_behind, length_map_of, length_with_map, map_of_with_map, with_map_again, before_map, behind_map, part_before_map, put_map}
 
 -- THE MAP'S BITS
 -- a bit that is set stays, whatever bit is set
@@ -594,38 +580,44 @@ references_end first r (x ∷ rs) ws = references_end first r rs (with_reference
 length_references_met : (m : List ℕ) → plan_end ≤ length m → length (references_met m) ≡ min (references_in (get_or m 0 0)) 4096
 length_references_met m h = length-take-le (min (references_in (get_or m 0 0)) 4096) (drop 2 m) (omega (arith, length-drop 2 m))
 
-pub mark_none : (first : ℕ) (m : List ℕ) → plan_end ≤ length m → m ≡ with_map (with_references first (take 0 (references_met m)) (map_of m)) m
+-- references that are marked one by one in a row whose front is the map
+abbrev pub with_front : ℕ → List ℕ → List ℕ → List ℕ
+with_front first rs xs = with_references first rs (take map_words xs) ++ drop map_words xs
+
+pub mark_none : (first : ℕ) (rs xs : List ℕ) → xs ≡ with_front first (take 0 rs) xs
 unfolding with_references
-mark_none first m h = sym (with_map_same m h)
+mark_none first rs xs = sym (take-append-drop map_words xs)
 
-pub mark_more : (first i : ℕ) (m m₁ : List ℕ) → plan_end ≤ length m → i < min (references_in (get_or m 0 0)) 4096 →
-    m₁ ≡ with_map (with_references first (take i (references_met m)) (map_of m)) m →
-    with_map (with_reference first (get_or m₁ (i + 2) 0) (map_of m₁)) m₁ ≡ with_map (with_references first (take (i + 1) (references_met m)) (map_of m)) m
-mark_more first i m m₁ h lt e =
-    ap (λ x. with_map (with_reference first (get_or x (i + 2) 0) (map_of x)) x) e
-    ∙ ap₂ (λ r x. with_map (with_reference first r x) (with_map ws m)) (before_map ws m (i + 2) (omega arith) h) (map_of_with_map ws m l h)
-    ∙ with_map_again ws (with_reference first r ws) m l (length_with_reference first r ws ∙ l) h
-    ∙ ap (λ x. with_map x m) (sym (references_end first r (take i (references_met m)) (map_of m)) ∙ ap (λ rs. with_references first rs (map_of m)) (sym one_more))
+pub mark_more : (first i : ℕ) (rs xs ys ws : List ℕ) → map_words ≤ length xs → i < length rs → ys ≡ with_front first (take i rs) xs →
+    ws ≡ with_reference first (get_or rs i 0) (take map_words ys) → ws ++ drop map_words ys ≡ with_front first (take (i + 1) rs) xs
+mark_more first i rs xs ys ws h lt e f =
+    ap₂ (λ a b. a ++ b)
+    (f ∙ ap (λ z. with_reference first (get_or rs i 0) (take map_words z)) e ∙ ap (with_reference first (get_or rs i 0)) (take_at marked rest map_words long)
+    ∙ sym (references_end first (get_or rs i 0) (take i rs) (take map_words xs)) ∙ ap (λ z. with_references first z (take map_words xs)) (sym (take_more rs i 0 lt)))
+    (ap (drop map_words) e ∙ drop_at marked rest map_words long)
   where
-    r : ℕ
-    r = get_or m (i + 2) 0
+    marked : List ℕ
+    marked = with_references first (take i rs) (take map_words xs)
 
-    ws : List ℕ
-    ws = with_references first (take i (references_met m)) (map_of m)
+    rest : List ℕ
+    rest = drop map_words xs
 
-    l : length (with_references first (take i (references_met m)) (map_of m)) ≡ map_words
-    l = length_with_references first (take i (references_met m)) (map_of m) ∙ length_map_of m h
+    long : length (with_references first (take i rs) (take map_words xs)) ≡ map_words
+    long = length_with_references first (take i rs) (take map_words xs) ∙ length-take-le map_words xs h
 
-    one_more : take (i + 1) (references_met m) ≡ take i (references_met m) ++ get_or m (i + 2) 0 ∷ []
-    one_more =
-        take_more (references_met m) i 0 (omega (arith, length_references_met m h))
-        ∙ ap (λ x. take i (references_met m) ++ x ∷ [])
-        (get_or-take (min (references_in (get_or m 0 0)) 4096) (drop 2 m) i 0 lt ∙ get_or-drop 2 m i 0 ∙ (let z : 2 + i ≡ i + 2 = omega arith in ap (λ j. get_or m j 0) z))
+pub mark_all : (first i many : ℕ) (m front xs ys : List ℕ) → plan_end ≤ length m → many ≡ min (references_in (get_or m 0 0)) 4096 → front ≡ take map_at m →
+    xs ≡ drop map_at m → length (take many (drop 2 front)) ≤ i → ys ≡ with_front first (take i (take many (drop 2 front))) xs →
+    front ++ ys ≡ with_map (with_references first (references_met m) (map_of m)) m
+mark_all first i many m front xs ys h n f e le g =
+    ap₂ (λ a b. a ++ b) f
+    (g ∙ ap₂ (with_front first) (take_all i (take many (drop 2 front)) le ∙ items) e
+    ∙ ap (λ z. with_references first (references_met m) (map_of m) ++ z) (drop-drop map_words map_at m ∙ ap (λ k. drop (map_at + k) m) (sym long)))
+  where
+    items : take many (drop 2 front) ≡ references_met m
+    items = ap₂ (λ k z. take k (drop 2 z)) n f ∙ part_of_front (min (references_in (get_or m 0 0)) 4096) 2 map_at m (omega arith)
 
-pub mark_all : (first i : ℕ) (m : List ℕ) → plan_end ≤ length m → min (references_in (get_or m 0 0)) 4096 ≤ i →
-    with_map (with_references first (take i (references_met m)) (map_of m)) m ≡ with_map (with_references first (references_met m) (map_of m)) m
-mark_all first i m h le =
-    ap (λ rs. with_map (with_references first rs (map_of m)) m) (take_all i (references_met m) (omega (arith, length_references_met m h)))
+    long : length (with_references first (references_met m) (map_of m)) ≡ map_words
+    long = length_with_references first (references_met m) (map_of m) ∙ length_map_of m h
 
 -- references are marked on a map that was put before
 references_stand : (ws m : List ℕ) → plan_end ≤ length m → references_met (with_map ws m) ≡ references_met m

@@ -1,5 +1,5 @@
 // Files, commits and names in the buffer: put together out of what they say and of bytes that stand packed behind the buffer, and read back.
-ghost use Rattle.std.specs.Prelude.{◌≡◌, ◌+◌, ◌*◌, ◌<◌, ◌≤◌, ◌++◌, length, take, drop};
+ghost use Rattle.std.specs.Prelude.{◌≡◌, ◌+◌, ◌-◌, ◌*◌, ◌<◌, ◌≤◌, ◌++◌, length, take, drop};
 ghost use Rattle.pages.specs.Lists.{zeros};
 ghost use Rattle.pages.specs.Words.{over};
 ghost use Rattle.objects.specs.Layouts.{answered, bytes_put, bytes_stand, commit_fits, commit_front, commit_of, commit_read, eight_of, file_object, file_read, in_front, key_at, kind_number, name_fits, name_of, name_read, of_kind, BytesBack, ReadBack, words_at, words_for};
@@ -208,15 +208,13 @@ pub fn read_name(memory: &[u64]) -> Option<Name>
     })
 }
 
-// The i-th eight bytes; behind the last byte come zeros.
-fn eight_at(bytes: &[u8], i: usize) -> [u8; 8]
-    requires { 8 * i < length bytes.now }
-    ensures { result ≡ eight_of i bytes.now }
+// Up to eight bytes with zeros behind them.
+fn padded(bytes: &[u8]) -> [u8; 8]
+    requires { length bytes.now ≤ 8 }
+    ensures { result ≡ bytes.now ++ zeros (8 - length bytes.now) }
 {
-    let start = 8 * i;
-    let many = (bytes.len() - start).min(8);
     let mut eight = [0; 8];
-    eight[0..many].copy_from_slice(&bytes[start..start + many]);
+    eight[..bytes.len()].copy_from_slice(bytes);
     eight
 }
 
@@ -228,9 +226,8 @@ pub fn put_bytes(memory: &mut [u64], at: usize, bytes: &[u8])
     if at > memory.len() || words > memory.len() - at {
         return;
     }
-    // As it stands: chunks of eight would be padded and placed by their number all the same.
-    for i in 0..words {
-        memory[at + i] = number(&eight_at(bytes, i));
+    for (i, eight) in bytes.chunks(8).enumerate() {
+        memory[at + i] = number(&padded(eight));
     }
 }
 

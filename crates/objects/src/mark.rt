@@ -77,10 +77,9 @@ fn mark_references(memory: &mut [u64], first: u64)
     ensures { memory.new ≡ with_map (with_references first (met_of memory.old) (map_of memory.old)) memory.old }
 {
     let many = references_met(memory[0]);
-    // As it stands: the references are read out of the lent row that the map is written in.
-    for i in 0..many {
-        let reference = memory[i + 2];
-        mark_reference(&mut memory[plan::MAP..plan::COUNTS], first, reference);
+    let (front, behind) = memory.split_at_mut(plan::MAP);
+    for reference in &front[2..2 + many] {
+        mark_reference(&mut behind[..plan::COUNTS - plan::MAP], first, *reference);
     }
 }
 

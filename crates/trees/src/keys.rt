@@ -4,8 +4,7 @@ ghost use Rattle.pages.specs.Lists.{pick, zeros};
 ghost use Rattle.pages.specs.Words.{words};
 ghost use Rattle.trees.specs.Row.{good_path, key_of};
 
-use pages::bytes::number;
-use std::array;
+use pages::words::words_in;
 
 // A path as eight words, padded with zeros, and its length.
 pub(crate) type Key = [u64; 9];
@@ -20,22 +19,13 @@ fn padded(path: &[u8]) -> [u8; 64]
     bytes
 }
 
-// A word of a key: eight bytes of the padded path, or behind them its length.
-fn word_of(bytes: &[u8; 64], size: u64, i: usize) -> u64
-    ensures { i < 9 → result ≡ slice_index (words 8 bytes.now ++ size ∷ []) i }
-{
-    if i < 8 {
-        number(&bytes[8 * i..8 * i + 8])
-    } else {
-        size
-    }
-}
-
 // Eight words of a padded path, and its length.
 fn packed(bytes: &[u8; 64], size: u64) -> Key
     ensures { result ≡ words 8 bytes.now ++ size ∷ [] }
 {
-    array::from_fn(|i| word_of(bytes, size, i))
+    let mut key = [size; 9];
+    key[..8].copy_from_slice(&words_in::<8>(bytes));
+    key
 }
 
 // The key of a path of 1 to 64 bytes.

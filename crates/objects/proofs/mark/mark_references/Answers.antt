@@ -1,13 +1,24 @@
-use Rattle.std.proofs.Common.{◌∙◌, arith}
-use Rattle.objects.proofs.MarkLaws.{put_reference, mark_none, mark_more, mark_all}
+use Rattle.std.proofs.Common.{◌≡◌, ◌+◌, ◌-◌, take, drop, sym, ◌∙◌, arith}
+use Rattle.std.proofs.lemmas.List.{length-take-le}
+use Rattle.objects.proofs.MarkLaws.{mark_none, mark_more, mark_all}
 use Rattle.objects.proofs.mark.mark_references.Goals as goal
 
-pub loop-i-init : goal.loop-i-init
-loop-i-init c = mark_none c.args.first c.args.memory.now c.requires
+pub loop-reference-init : goal.loop-reference-init
+loop-reference-init c =
+    mark_none c.args.first (take (2 + c.references_met-many.result - 2) (drop 2 c.split_at_mut-front.result.0.now)) c.split_at_mut-front.result.1.now
 
-pub loop-i-preserved : goal.loop-i-preserved
-loop-i-preserved c =
-    put_reference c.args.first _ c.loop-i.memory c.mark_reference.new.map (omega arith) c.mark_reference.ensures ∙ mark_more c.args.first c.loop-i.i c.args.memory.now c.loop-i.memory c.requires (omega arith) c.loop-i.invariant
+pub slice_bounds-mark_reference-length : goal.slice_bounds-mark_reference-length
+slice_bounds-mark_reference-length c =
+    sym (length-take-le 131072 c.loop-reference.behind (omega (arith, c.loop-reference.auto.behind, c.split_at_mut-front.ensures.back_len)))
+
+pub loop-reference-preserved : goal.loop-reference-preserved
+loop-reference-preserved c =
+    mark_more c.args.first c.loop-reference.reference-index _ _ c.loop-reference.behind _ (omega (arith, c.split_at_mut-front.ensures.back_len)) (omega arith)
+    c.loop-reference.invariant c.mark_reference.ensures
 
 pub returns : goal.returns
-returns c = c.loop-i.invariant ∙ mark_all c.args.first c.loop-i.i c.args.memory.now c.requires (omega arith)
+returns c =
+    let many = 2 + c.references_met-many.result - 2 in
+    let all : many ≡ c.references_met-many.result = omega arith in
+    mark_all c.args.first c.loop-reference.reference-index many c.args.memory.now _ _ c.loop-reference.behind c.requires
+    (all ∙ c.references_met-many.ensures) c.split_at_mut-front.ensures.front c.split_at_mut-front.ensures.back (omega arith) c.loop-reference.invariant
