@@ -14,11 +14,3 @@ loop-reference-preserved c = λ m e.
     c.mark_root.ensures ∙ ap (rooted c.args.first (get_or rs i 0)) (c.loop-reference.invariant m e)
     ∙ roots_more c.args.first (get_or rs i 0) (take i rs) m
     ∙ ap (λ xs. roots_marked c.args.first xs m) (sym (take_more rs i 0 (omega arith)))
-
-pub returns : goal.returns
-returns c =
-    let m = c.args.memory.now in
-    let rs = c.args.roots.now in
-    let all : c.loop-reference.memory ≡ roots_marked c.args.first rs m =
-    c.loop-reference.invariant m c.unmark.ensures ∙ ap (λ xs. roots_marked c.args.first xs m) (take_all c.loop-reference.reference-index rs (omega arith)) in
-    record { marked = λ h. all ∙ roots_long c.args.first rs m h; short = λ h. all ∙ roots_short c.args.first rs m h }

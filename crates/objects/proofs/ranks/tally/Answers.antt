@@ -9,9 +9,6 @@ use Rattle.objects.proofs.ranks.tally.Goals as goal
 pub loop-block-init : goal.loop-block-init
 loop-block-init c = (paste_none c.args.memory.now 172256 (counts 16384 (map_of c.args.memory.now)), refl, omega arith, refl)
 
-pub bounds-memory-block : goal.bounds-memory-block
-bounds-memory-block c = omega arith
-
 pub slice_bounds-ones_in-end : goal.slice_bounds-ones_in-end
 slice_bounds-ones_in-end c = simp length-set (omega arith)
 
@@ -25,9 +22,6 @@ loop-block-preserved c =
       omega arith,
       simp length-set (omega arith),
     )
-
-pub shape_of-memory : goal.shape_of-memory
-shape_of-memory c = c.loop-block.invariant.3
 
 pub returns-after-loop-block : goal.returns-after-loop-block
 returns-after-loop-block c = tally_all c.args.memory.now c.loop-block.memory c.loop-block.block (omega arith) (omega arith) c.loop-block.invariant.0

@@ -4,13 +4,6 @@ use Rattle.store.specs.Sha256.{K}
 use Rattle.store.proofs.Scheduling.{turned, mixed_none, mixed_at, last_none, last_all}
 use Rattle.store.proofs.words.compress.Goals as goal
 
-pub loop-b-init : goal.loop-b-init
-loop-b-init c = (omega arith, λ M m. m)
-
-pub loop-b-preserved : goal.loop-b-preserved
-loop-b-preserved c =
-    (c.eight_rounds-v.array_long, λ M m. mixed_at _ _ (omega arith) (c.eight_rounds-v.ensures M _ (c.loop-b.invariant.1 M m)))
-
 pub returns : goal.returns
 returns c =
     let mixed = mixed_at _ 48 (omega arith) (c.loop-b.invariant.1 _ (mixed_none _ _ _ (omega arith) c.load-w.ensures)) in

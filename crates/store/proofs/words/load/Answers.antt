@@ -10,8 +10,3 @@ loop-t-init c = (refl, schedule_none _ [])
 pub loop-t-preserved : goal.loop-t-preserved
 loop-t-preserved c =
     (simp length-set (omega arith), schedule_low _ _ _ _ (omega arith) c.loop-t.invariant.1 (omega arith) c.word.ensures)
-
-pub returns : goal.returns
-returns c =
-    let end : c.loop-t.t ≡ 16 = omega arith in
-    ap (λ k. take k c.loop-t.w) (sym end) ∙ c.loop-t.invariant.1 ∙ ap (λ k. schedule k c.args.block.now) end

@@ -19,15 +19,3 @@ returns-in-Some-Some c =
     let lb : length b ≡ 10 = search rules in
     let d : Decides c.eq.result (a ≡ b) = rw (ea, eb) at (slice_eq-Decides Decides-eqb c.in-Some-Some.old.now c.in-Some-Some.new.now _ c.eq.ensures) in
     meets_words a b (drop (i + 1) (each as_entry old)) (drop (j + 1) (each as_entry new)) c.eq.result la lb d ∙ sym (ap₂ (λ s t. meets s t) (file_at old i h) (file_at new j k))
-
-pub returns-in_default : goal.returns-in_default
-returns-in_default c =
-    let new = c.args.new.now in let ts = drop c.args.i (each as_entry c.args.old.now) in
-    let k : length new ≤ c.args.j = search rules in
-    sym (ap (meets ts) (file_past new c.args.j k) ∙ meets_none ts)
-
-pub returns-in_default-2 : goal.returns-in_default-2
-returns-in_default-2 c =
-    let old = c.args.old.now in
-    let h : length old ≤ c.args.i = search rules in
-    sym (ap (λ u. meets u (drop c.args.j (each as_entry c.args.new.now))) (file_past old c.args.i h))

@@ -15,19 +15,10 @@ inside c =
     let w = meets_within (each as_entry os) (each as_entry ns) c.loop-i.i c.loop-i.j c.loop-i-test.ensures in
     (omega (arith, w.0, length_each as_entry os), omega (arith, w.1, length_each as_entry ns))
 
-pub overflow_add-i : goal.overflow_add-i
-overflow_add-i c = omega (arith, (inside c).0)
-
-pub overflow_add-j : goal.overflow_add-j
-overflow_add-j c = omega (arith, (inside c).1)
-
 pub loop-i-preserved : goal.loop-i-preserved
 loop-i-preserved c =
     let os = each as_entry c.entries-old.result.now in let ns = each as_entry c.entries-new.result.now in let i = c.loop-i.i in let j = c.loop-i.j in
     sym (ap₂ (λ s t. first_difference s t (i + 1) (j + 1)) (drop-drop 1 i os) (drop-drop 1 j ns)) ∙ difference_on (drop i os) (drop j ns) i j c.loop-i-test.ensures ∙ c.loop-i.invariant
-
-pub loop-i-smaller : goal.loop-i-smaller
-loop-i-smaller c = omega (arith, (inside c).0)
 
 pub returns : goal.returns
 unfolding difference_from

@@ -5,13 +5,6 @@ use Rattle.trees.specs.Differ.{difference_here}
 use Rattle.trees.proofs.DifferLaws.{file_at, file_past, here_ordered}
 use Rattle.trees.proofs.differences.here.Goals as goal
 
-pub returns-in-None-None : goal.returns-in-None-None
-returns-in-None-None c =
-    let old = c.args.old.now in let new = c.args.new.now in
-    let h : length old ≤ c.args.i = search rules in
-    let k : length new ≤ c.args.j = search rules in
-    sym (ap₂ (λ s t. difference_here s t c.args.i c.args.j) (file_past old c.args.i h) (file_past new c.args.j k))
-
 pub returns-in-None-Some : goal.returns-in-None-Some
 returns-in-None-Some c =
     let old = c.args.old.now in let new = c.args.new.now in

@@ -17,10 +17,3 @@ loop-entry-preserved c =
       c.pack-at.ensures.words ∙ over_behind c.loop-entry.at front c.args.out.now more c.loop-entry.out (sym c.loop-entry.invariant.0) c.loop-entry.invariant.1
           ∙ ap₂ (λ u m. u ++ drop m c.args.out.now) (sym p) (sym c.pack-at.ensures.end),
     )
-
-pub returns : goal.returns
-returns c =
-    let es = c.args.entries.now in
-    let t = take_all c.loop-entry.entry-index es (omega arith) in
-    c.loop-entry.invariant.1 ∙ ap (λ m. flat packed (take c.loop-entry.entry-index es) ++ drop m c.args.out.now) c.loop-entry.invariant.0
-    ∙ ap (λ u. flat packed u ++ drop (length (flat packed u)) c.args.out.now) t
