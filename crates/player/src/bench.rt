@@ -4,7 +4,7 @@ use crate::driver::{Answer, End, MOST_ACTS, Pair, Run, World};
 use crate::engine::is_known;
 use crate::random::Dice;
 use crate::text::spelled;
-use commands::{Command, Refusal, parse};
+use commands::{Command, Kind, Refusal, parse};
 use device::{Device, Left};
 use pages::bytes::number;
 use plain::houses::{House, Past, Plain};
@@ -45,7 +45,7 @@ impl Saying<'_> {
     // The house that it asks to fetch from, if it does.
     fn fetches_from(&self) -> Option<usize> {
         match self.text.split_first() {
-            Some((19, rest)) => Some(number(rest) as usize),
+            Some((kind, rest)) if *kind == Kind::Fetch.number() => Some(number(rest) as usize),
             _ => None,
         }
     }
@@ -60,6 +60,7 @@ impl Saying<'_> {
 #[derive(Drop)]
 struct Expected {
     answer: Answer,
+    // As it stands: the answer is due either way, so two variants of an enum would both hold it.
     may_lack_line: bool,
 }
 
@@ -135,32 +136,6 @@ pub struct Bench {
     dice: Dice,
     pub plain: Plain,
     pub counts: Counts,
-}
-
-// What the house answered, and what the plain house does.
-fn beside(heap: Global, what: &str, house: &Answer, plain: &Answer) -> Result<String, AllocError> {
-    format!(in heap; "{what}: the house {house}, the plain house {plain}")
-}
-
-// An error that says so, unless the answers are the same.
-fn same(heap: Global, what: &str, house: &Answer, plain: &Answer) -> Result<(), Trouble> {
-    if house == plain {
-        return Ok(());
-    }
-    Err(Trouble::Differs(beside(heap, what, house, plain)?))
-}
-
-// The first place where answers differ.
-fn first_trouble(
-    heap: Global,
-    what: &str,
-    got: &[Answer],
-    wanted: &[Answer],
-) -> Result<String, AllocError> {
-    match got.iter().zip(wanted).find(|(a, b)| a != b) {
-        Some((a, b)) => beside(heap, what, a, b),
-        None => String::from_str(heap, what),
-    }
 }
 
 // Things to be asked, each once, in the order in which they came.
@@ -301,6 +276,32 @@ impl Bench {
         }
     }
 
+    // What the house answered, and what the plain house does.
+    fn beside(&self, what: &str, house: &Answer, plain: &Answer) -> Result<String, AllocError> {
+        format!(in self.heap; "{what}: the house {house}, the plain house {plain}")
+    }
+
+    // An error that says so, unless the answers are the same.
+    fn same(&self, what: &str, house: &Answer, plain: &Answer) -> Result<(), Trouble> {
+        if house == plain {
+            return Ok(());
+        }
+        Err(Trouble::Differs(self.beside(what, house, plain)?))
+    }
+
+    // The first place where answers differ.
+    fn first_trouble(
+        &self,
+        what: &str,
+        got: &[Answer],
+        wanted: &[Answer],
+    ) -> Result<String, AllocError> {
+        match got.iter().zip(wanted).find(|(a, b)| a != b) {
+            Some((a, b)) => self.beside(what, a, b),
+            None => String::from_str(self.heap, what),
+        }
+    }
+
     fn bare(&self, end: End) -> Answer {
         Answer::bare(self.heap, end)
     }
@@ -424,7 +425,7 @@ impl Bench {
             Ok(())
         })?;
         one_more(&mut self.counts.powers);
-        same(heap, "power", &run.answer()?, &self.bare(End::Done))
+        self.same("power", &run.answer()?, &self.bare(End::Done))
     }
 
     // Power stops while it comes.
@@ -442,7 +443,7 @@ impl Bench {
         if got == self.bare(End::Done) {
             return Ok(());
         }
-        same(heap, "power that stops", &got, &self.bare(End::Running))
+        self.same("power that stops", &got, &self.bare(End::Running))
     }
 
     // A whole command.
@@ -464,7 +465,7 @@ impl Bench {
             self.undo(past);
             return Ok(());
         }
-        same(self.heap, "command", got, &expected.answer)
+        self.same("command", got, &expected.answer)
     }
 
     // A command in which power stops: what is kept then is as before or as after it, and as after it if it had ended.
@@ -491,7 +492,7 @@ impl Bench {
         let runs = stood.end == End::Running;
         let lacked = stood.end == End::Refused(Refusal::NoLine) && outlook.expected.may_lack_line;
         if !runs && !lacked {
-            same(self.heap, "before a stop", stood, &outlook.expected.answer)?;
+            self.same("before a stop", stood, &outlook.expected.answer)?;
         }
         let may_be_old = runs || lacked;
         if may_be_old && got == outlook.old {
@@ -500,16 +501,14 @@ impl Bench {
         if !lacked && got == outlook.new {
             return Ok(Kept::New);
         }
-        let mut text = first_trouble(
-            self.heap,
+        let mut text = self.first_trouble(
             "after a stop, held to after the command",
             got.as_slice(),
             outlook.new.as_slice(),
         )?;
         if may_be_old {
             text.push_str("; ")?;
-            let old = first_trouble(
-                self.heap,
+            let old = self.first_trouble(
                 "held to before it",
                 got.as_slice(),
                 outlook.old.as_slice(),
