@@ -14,17 +14,18 @@ const OUT: usize = 131072;
 // More acts than any command makes.
 const ACTS: u64 = 1 << 40;
 
-// A house's memory, the row that it writes to, and its pages.
+// A house's memory, the row that it writes to, and its pages; and the system, which shows what it tells.
 #[derive(Drop)]
-pub struct Driver {
+pub struct Driver<'a> {
+    pub rt: &'a HostRuntime,
     memory: Vec<u64>,
     out: Vec<u8>,
     file: PageFile,
 }
 
-impl Driver {
+impl<'a> Driver<'a> {
     // A house on its own, its power just switched on.
-    pub fn start(rt: &HostRuntime, file: PageFile) -> Result<Driver, Trouble> {
+    pub fn start(rt: &'a HostRuntime, file: PageFile) -> Result<Driver<'a>, Trouble> {
         let heap = rt.alloc();
         let memory = vec![in heap; 0u64; MEMORY]?;
         let out = vec![in heap; 0u8; OUT]?;
@@ -33,29 +34,30 @@ impl Driver {
             houses: 1,
             pages: file.pages(),
         };
-        let mut driver = Driver { memory, out, file };
-        match driver.run(rt, power)? {
+        let mut driver = Driver {
+            rt,
+            memory,
+            out,
+            file,
+        };
+        match driver.run(power)? {
             Ok(()) => Ok(driver),
             Err(refused) => Err(Trouble::Start(refused)),
         }
     }
 
     // Runs a command to its end, and prints what it shows; says whether the house refused it.
-    pub fn command(
-        &mut self,
-        rt: &HostRuntime,
-        bytes: &[u8],
-    ) -> Result<Result<(), Refused>, Trouble> {
-        self.run(rt, Event::Said(bytes))
+    pub fn command(&mut self, bytes: &[u8]) -> Result<Result<(), Refused>, Trouble> {
+        self.run(Event::Said(bytes))
     }
 
-    fn run(&mut self, rt: &HostRuntime, event: Event) -> Result<Result<(), Refused>, Trouble> {
+    fn run(&mut self, event: Event) -> Result<Result<(), Refused>, Trouble> {
         let mut told = self.tell(event);
         for _ in 0..ACTS {
             match told {
                 Told::Done => return Ok(Ok(())),
                 Told::No(number) => return Ok(Err(Refused::try_from(number)?)),
-                _ => told = self.act(rt, told)?,
+                _ => told = self.act(told)?,
             }
         }
         Err(Trouble::Endless)
@@ -68,12 +70,12 @@ impl Driver {
     }
 
     // Does what the house asks for, and tells it so.
-    fn act(&mut self, rt: &HostRuntime, told: Told) -> Result<Told, Trouble> {
+    fn act(&mut self, told: Told) -> Result<Told, Trouble> {
         match told {
             Told::Read(number) => return self.read(number),
             Told::Write(number) => self.write(number)?,
             Told::Flush => system("flush the file", self.file.sync())?,
-            Told::Shows(count) => self.show(rt, count)?,
+            Told::Shows(count) => self.show(count)?,
             Told::Send(_) => return Ok(self.tell(Event::Lost)),
             Told::Done | Told::No(_) => {}
         }
@@ -100,11 +102,11 @@ impl Driver {
         system("write a page", self.file.write_page(number, page))
     }
 
-    fn show(&mut self, rt: &HostRuntime, count: u64) -> Result<(), Trouble> {
+    fn show(&mut self, count: u64) -> Result<(), Trouble> {
         let Some(row) = self.out.as_slice().get(0..count as usize) else {
             return Err(Trouble::Fault);
         };
-        print_row(rt, row)
+        print_row(self.rt, row)
     }
 }
 

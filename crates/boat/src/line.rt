@@ -163,6 +163,7 @@ impl<'a> Words<'a> {
 fn spelled<'a>(command: Command, words: &Words<'a>) -> Result<Vec<u8>, Unread<'a>>
     ensures { IfOk result (λ bytes. parsed bytes.items ≡ Some (meant command.entry)) }
 {
+    // the law that the clause rests on
     parsed_back();
     words.end()?;
     let mut bytes = vec![in words.heap; 0u8; SPELLING]?;

@@ -16,6 +16,7 @@ use std::{env, fs, io};
 use trouble::{Trouble, system};
 
 // The file as it is, or a new one where there is none.
+// As it stands: std takes the runtime and the path apart, so a struct of both would be taken apart in each function.
 fn file_at(rt: &HostRuntime, path: &str, asked: Option<PageCount>) -> Result<PageFile, Trouble> {
     let found = match fs::metadata(rt, path) {
         Err(error) if error.kind() == io::ErrorKind::NotFound => {
@@ -43,30 +44,32 @@ fn new_file(rt: &HostRuntime, path: &str, count: PageCount) -> Result<PageFile, 
 }
 
 // Asks the house with the bytes, and prints how that ended.
-fn ask(rt: &HostRuntime, driver: &mut Driver, bytes: &[u8]) -> Result<(), Trouble> {
-    let said = match driver.command(rt, bytes)? {
-        Ok(()) => println!(rt; "done"),
-        Err(refused) => println!(rt; "{refused}"),
+fn ask(driver: &mut Driver, bytes: &[u8]) -> Result<(), Trouble> {
+    let said = match driver.command(bytes)? {
+        Ok(()) => println!(driver.rt; "done"),
+        Err(refused) => println!(driver.rt; "{refused}"),
     };
     system("print", said)
 }
 
 // Answers one line.
-fn answer(rt: &HostRuntime, driver: &mut Driver, number: u64, line: &[u8]) -> Result<(), Trouble> {
+fn answer(driver: &mut Driver, number: u64, line: &[u8]) -> Result<(), Trouble> {
+    let rt = driver.rt;
     match asked_by(rt.alloc(), line) {
         Ok(None) => Ok(()),
-        Ok(Some(Asked::Run(bytes))) => ask(rt, driver, &bytes),
+        Ok(Some(Asked::Run(bytes))) => ask(driver, &bytes),
         Ok(Some(Asked::Spell(bytes))) => print_row(rt, &bytes),
         Err(why) => system("print", println!(rt; "line {number}: {why}")),
     }
 }
 
 // Answers each line of standard input.
-fn serve(rt: &HostRuntime, driver: &mut Driver) -> Result<(), Trouble> {
+fn serve(driver: &mut Driver) -> Result<(), Trouble> {
+    let rt = driver.rt;
     let input = system("read a line", BufReader::new(rt.alloc(), rt.stdin()))?;
     for (number, line) in (1..=u64::MAX).zip(input.split(rt.alloc(), b'\n')) {
         let line = system("read a line", line)?;
-        answer(rt, driver, number, line.as_slice())?;
+        answer(driver, number, line.as_slice())?;
     }
     Ok(())
 }
@@ -75,7 +78,7 @@ fn run(rt: &HostRuntime, path: &str, pages: Option<String>) -> Result<(), Troubl
     let asked = pages.map(|text| text.parse::<PageCount>()).transpose()?;
     let file = file_at(rt, path, asked)?;
     let mut driver = Driver::start(rt, file)?;
-    serve(rt, &mut driver)
+    serve(&mut driver)
 }
 
 // Prints what stopped the program and where, and hands it on.
