@@ -33,7 +33,7 @@ impl Key {
 }
 
 // A walk's registers.
-// As it stands: they are cells of a house's memory, so any number may be looked for, and 0 stands for none.
+// As it stands: what marking does is defined over `found` as a number, 0 for none, and the kinds that are looked for are the caller's numbers.
 #[derive(Clone, Copy, Debug, Default, PartialEq, Eq)]
 pub struct Walk {
     // The first unit of the window.

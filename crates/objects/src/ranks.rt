@@ -10,7 +10,7 @@ pub fn tally(memory: &mut [u64])
 {
     if memory.len() >= END {
         let mut sum = 0;
-        // As it stands: the counts are written in the lent row that the map is read from.
+        // As it stands: the counts are written by their number, since std says nothing of a row after an adapter of its `iter_mut`.
         for block in 0..COUNTS_WORDS {
             let at = MAP + 8 * block;
             memory[COUNTS + block] = sum;

@@ -38,7 +38,8 @@ pub struct Sweep {
     pub waiting: u64,
 }
 
-// As it stands: each method says that memory holds the plan; a struct with the lent row would say of each that the loan stays.
+// As it stands: each method says that memory holds the plan; a struct with the lent row would say of each that the loan stays,
+// and an array would be the front of a memory of which the contracts speak as a whole.
 impl Sweep {
     // The new name of a reference.
     fn new_name(&self, memory: &[u64], reference: u64) -> u64
@@ -59,7 +60,7 @@ impl Sweep {
         requires { (plan_end ≤ length memory.old) × (at + many ≤ 41088) }
         ensures { memory.new ≡ renaming self.now.walk.first self.now.from at many memory.old }
     {
-        // As it stands: the new names come out of the map and its counts, which stand in the same lent row.
+        // As it stands: `new_name` speaks of the whole memory, with the map and its counts, while a reference in it is written.
         for i in at..at + many {
             let reference = memory[i];
             memory[i] = self.new_name(memory, reference);
@@ -204,7 +205,6 @@ impl Sweep {
         if memory.len() < plan::END {
             return None;
         }
-        // As it stands: the stage is loaded from memory before each request, so no closure can be kept in its place.
         match self.stage {
             Stage::Marking => Some(self.meet(memory)),
             Stage::Copying => Some(self.copy(memory)),

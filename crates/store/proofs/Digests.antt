@@ -1,12 +1,10 @@
 -- Numbers as bytes, and the 32 bytes of a hash value, word by word.
-use Rattle.std.proofs.Common.{◌≡◌, ℕ, ◌+◌, ◌*◌, ◌/◌, ◌%◌, ◌<◌, ◌≤◌, List, [], ◌∷◌, ◌++◌, length, get_or, take, sym, ap, ◌∙◌, append_assoc, append-nil, arith}
-use Rattle.std.proofs.lemmas.List.{take_more, take_all}
+use Rattle.std.specs.List.{flat_map}
+use Rattle.std.proofs.Common.{suc, refl, ap₂, ◌≡◌, ℕ, ◌/◌, ◌%◌, ◌<◌, List, [], ◌∷◌, ◌++◌, length, get_or, sym, ap, ◌∙◌, arith}
 use Rattle.pages.specs.Lists.{flat}
 use Rattle.pages.specs.Bytes.{in_bytes}
 use Rattle.store.specs.declared.words.Words.{Words}
 use Rattle.store.specs.Sha256.{words_of, digest}
-use Rattle.store.specs.Rows.{over}
-use Rattle.store.proofs.Written.{length_over, take_over}
 
 abbrev four : ℕ → List ℕ
 four w = in_bytes 4 w []
@@ -18,26 +16,16 @@ four_is w =
     let a : w / 256 / 256 / 256 ≡ w / 16777216 = omega arith in
     rw (a, b)
 
-flat_push : {A B : Type 0} (f : A → List B) (xs : List A) (x : A) → flat f (xs ++ x ∷ []) ≡ flat f xs ++ f x
-flat_push f [] x = append-nil (f x)
-flat_push f (y ∷ ys) x = rw (flat_push f ys x) (sym (append_assoc (f y) (flat f ys) (f x)))
-
--- one word more
-pub digest_more : (out new ws bs : List ℕ) (i : ℕ) → length out ≡ 32 → i < 8 → length ws ≡ 8
-    → take (4 * i) out ≡ flat (λ w. in_bytes 4 w []) (take i ws) → bs ≡ in_bytes 4 (get_or ws i 0) [] → new ≡ over out (4 * i) bs
-    → (length new ≡ 32) × (take (4 * (i + 1)) new ≡ flat (λ w. in_bytes 4 w []) (take (i + 1) ws))
-unfolding in_bytes
-digest_more out new ws bs i n h l before b w =
-    let size : length bs ≡ 4 = ap length b in
-    let fits : 4 * i + length bs ≤ length out = omega arith in
-    let end : 4 * (i + 1) ≡ 4 * i + length bs = omega arith in (
-      ap length w ∙ length_over out (4 * i) bs fits ∙ n,
-      ap (take (4 * (i + 1))) w ∙ take_over out (4 * i) bs fits (4 * (i + 1)) end ∙ rw (before, b)
-          (sym (ap (flat four) (take_more ws i 0 (omega arith)) ∙ flat_push four (take i ws) (get_or ws i 0))),
-    )
-
-pub digest_all : (out ws : List ℕ) (s : Words) (i : ℕ) → length out ≡ 32 → i ≡ 8
-    → take (4 * i) out ≡ flat (λ w. in_bytes 4 w []) (take i ws) → ws ≡ words_of s → out ≡ digest s
+-- eight rows of four bytes, each of which spells a word
+pub digest_is : (s : Words) (ws : List ℕ) (rows : List (List ℕ)) → ws ≡ words_of s → length rows ≡ 8 →
+    ((i : ℕ) → i < 8 → get_or rows i [] ≡ in_bytes 4 (get_or ws i 0) []) → flat_map (λ x. x) rows ≡ digest s
 unfolding digest
-digest_all out ws s i n e h w =
-    sym (take_all (4 * i) out (omega arith)) ∙ h ∙ ap (λ k. flat four (take k ws)) e ∙ ap (λ v. flat four (take 8 v)) w
+digest_is s ws rows e l h =
+    all rows ws (l ∙ sym (ap length e)) (λ i lt. h i (omega (arith, ap length e))) ∙ ap (flat (λ w. in_bytes 4 w [])) e
+  where
+    all : (rs : List (List ℕ)) (vs : List ℕ) → length rs ≡ length vs → ((i : ℕ) → i < length vs → get_or rs i [] ≡ in_bytes 4 (get_or vs i 0) []) →
+        flat_map (λ x. x) rs ≡ flat (λ w. in_bytes 4 w []) vs
+    all [] [] n f = refl
+    all [] (v ∷ vs) n f = absurd (omega arith)
+    all (r ∷ rs) [] n f = absurd (omega arith)
+    all (r ∷ rs) (v ∷ vs) n f = ap₂ (λ a b. a ++ b) (f 0 (omega arith)) (all rs vs (omega arith) (λ i lt. f (suc i) (omega arith)))

@@ -28,11 +28,9 @@ fn write_at(row: &mut [u8], at: usize, bytes: &[u8])
 fn digest(s: Words) -> [u8; 32]
     ensures { result ≡ digest s }
 {
-    let words = s.words();
+    let words = s.words().map(u32::to_be_bytes);
     let mut out = [0; 32];
-    for (i, word) in words.iter().enumerate() {
-        write_at(&mut out, 4 * i, &word.to_be_bytes());
-    }
+    out.copy_from_slice(words.as_flattened());
     out
 }
 

@@ -194,7 +194,7 @@ fn load(block: &[u8; 64]) -> [u32; 64]
     ensures { take 16 result ≡ schedule 16 block.now }
 {
     let mut w = [0u32; 64];
-    // As it stands: `word` is the standard's word t of a block, and over chunks of four bytes the line would be longer.
+    // As it stands: with `array::from_fn` the goal that word t stands at t was not proved, since `word` asks for t below 16.
     for t in 0..16 {
         w[t] = word(block, t);
     }
@@ -242,7 +242,7 @@ pub(crate) fn compress(s: Words, block: &[u8; 64]) -> Words
 {
     let mut w = load(block);
     let mut v = s;
-    // As it stands: what goes on is a number of rounds, not a row.
+    // As it stands: with `(0..48).step_by(8)` each turn would owe that its first round is a multiple of 8 and at most 40.
     for b in 0..6 {
         v = eight_rounds(v, &mut w, 8 * b);
     }

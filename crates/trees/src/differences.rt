@@ -8,6 +8,7 @@ use crate::entries::{Entry, entries, order};
 use std::cmp::Ordering;
 
 // A place in each of two rows, in files.
+// As it stands: a house is asked for the next difference between requests, so where it is stands in cells, and no iterator is kept.
 #[derive(Clone, Copy, Debug, Default, PartialEq, Eq)]
 pub struct Cursor {
     pub old: usize,

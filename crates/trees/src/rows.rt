@@ -50,9 +50,9 @@ pub fn find(row: &[u64], path: &[u8]) -> Option<u64>
 }
 
 // Puts an entry of this weight at its key.
-fn put_key(row: &mut [u64], key: &Key, size: u64, reference: u64) -> Result<(), Refused>
+fn put_key(row: &mut [u64], key: &Key, weight: u64, reference: u64) -> Result<(), Refused>
     ensures answer { result ≡ pick (room_for key.now reference row.old) (Ok tt) (Err Full) }
-    ensures after { row.new ≡ put_key key.now size reference row.old }
+    ensures after { row.new ≡ put_key key.now weight reference row.old }
 {
     let n = count(row);
     let space = space(row);
@@ -67,10 +67,10 @@ fn put_key(row: &mut [u64], key: &Key, size: u64, reference: u64) -> Result<(), 
         }
         Err(_) if n == space => Err(Refused::Full),
         Err(at) => {
-            let weight = row[1].saturating_add(size);
+            let sum = row[1].saturating_add(weight);
             insert(&mut row[2..], n, at, key, reference);
             row[0] = n as u64 + 1;
-            row[1] = weight;
+            row[1] = sum;
             Ok(())
         }
     }
@@ -88,18 +88,18 @@ pub fn put(row: &mut [u64], path: &[u8], reference: u64) -> Result<(), Refused>
 }
 
 // Takes the entry of a key out; says whether there was one.
-fn take_key(row: &mut [u64], key: &Key, size: u64) -> bool
+fn take_key(row: &mut [u64], key: &Key, weight: u64) -> bool
     ensures answer { result ≡ has_key key.now row.old }
-    ensures after { row.new ≡ take_key key.now size row.old }
+    ensures after { row.new ≡ take_key key.now weight row.old }
 {
     let n = count(row);
     let Some(at) = index_of(entries(row), key) else {
         return false;
     };
-    let weight = row[1].saturating_sub(size);
+    let sum = row[1].saturating_sub(weight);
     remove(&mut row[2..], n, at);
     row[0] = n as u64 - 1;
-    row[1] = weight;
+    row[1] = sum;
     true
 }
 

@@ -31,27 +31,35 @@ impl fmt::Display for Tally {
     }
 }
 
-// The next of a fixed row of pseudo-random numbers.
-fn next(seed: &mut u64) -> u64 {
-    *seed = seed
-        .wrapping_mul(6364136223846793005)
-        .wrapping_add(1442695040888963407);
-    *seed >> 33
+// A fixed row of pseudo-random numbers.
+#[derive(Drop)]
+struct Generator {
+    seed: u64,
+}
+
+impl Generator {
+    fn next(&mut self) -> u64 {
+        self.seed = self
+            .seed
+            .wrapping_mul(6364136223846793005)
+            .wrapping_add(1442695040888963407);
+        self.seed >> 33
+    }
 }
 
 // A path out of few enough that they come again: few letters, zero among them, and long ones that differ at the end only.
-fn some_name(heap: Global, seed: &mut u64) -> Result<Vec<u8>, AllocError> {
+fn some_name(heap: Global, generator: &mut Generator) -> Result<Vec<u8>, AllocError> {
     let mut bytes = [0; 64];
-    let kind = next(seed) % 4;
+    let kind = generator.next() % 4;
     let size = match kind {
-        0 => 1 + next(seed) % 3,
-        1 => 1 + next(seed) % 64,
+        0 => 1 + generator.next() % 3,
+        1 => 1 + generator.next() % 64,
         2 => 64,
-        _ => 7 + next(seed) % 4,
+        _ => 7 + generator.next() % 4,
     };
     for (i, byte) in bytes.iter_mut().enumerate() {
         if kind == 0 || kind == 3 && i >= 6 || i >= 62 {
-            *byte = (next(seed) % 3 * 127) as u8;
+            *byte = (generator.next() % 3 * 127) as u8;
         }
     }
     Vec::from_slice(heap, &bytes[..(size % 65) as usize])
@@ -60,17 +68,17 @@ fn some_name(heap: Global, seed: &mut u64) -> Result<Vec<u8>, AllocError> {
 // One random step on both; whether they agree.
 fn step(
     heap: Global,
-    seed: &mut u64,
+    generator: &mut Generator,
     row: &mut [u64],
     map: &mut BTreeMap<Vec<u8>, u64>,
 ) -> Result<bool, AllocError> {
-    let name = some_name(heap, seed)?;
+    let name = some_name(heap, generator)?;
     let path = name.as_slice();
-    let agrees = match next(seed) % 5 {
+    let agrees = match generator.next() % 5 {
         0 => find(row, path) == map.get(path).copied(),
         1 => take_out(row, path) == map.remove(path).is_some(),
         _ => {
-            let reference = next(seed);
+            let reference = generator.next();
             let put = put(row, path, reference);
             map.insert(name, reference)?;
             put.is_ok()
@@ -80,11 +88,9 @@ fn step(
 }
 
 fn weighs(map: &BTreeMap<Vec<u8>, u64>) -> u64 {
-    let mut sum = 0u64;
-    for key in map.keys() {
-        sum = sum.wrapping_add(64).wrapping_add(key.len() as u64);
-    }
-    sum
+    map.keys().fold(0u64, |sum, key| {
+        sum.wrapping_add(64).wrapping_add(key.len() as u64)
+    })
 }
 
 // Whether a row has just what a map has.
@@ -100,25 +106,24 @@ fn matches(row: &[u64], map: &BTreeMap<Vec<u8>, u64>) -> bool {
 fn comes_back(row: &[u64]) -> bool {
     let mut stored = [7; 41024];
     let mut again = [9; 41024];
-    match squeeze(row, &mut stored) {
-        Some(n) => n <= 41024
+    squeeze(row, &mut stored).is_some_and(|n| {
+        n <= 41024
             && spread(&stored, &mut again)
             && same(row, &again)
-            && weight(row) == weight(&again),
-        None => false,
-    }
+            && weight(row) == weight(&again)
+    })
 }
 
 // Steps on an empty row and an empty map.
 fn round(
     heap: Global,
-    seed: &mut u64,
+    generator: &mut Generator,
     row: &mut [u64],
     tally: &mut Tally,
 ) -> Result<(), AllocError> {
     let mut map = BTreeMap::new(heap);
     for _ in 0..2000 {
-        let right = step(heap, seed, row, &mut map)?;
+        let right = step(heap, generator, row, &mut map)?;
         tally.note(right);
     }
     tally.note(matches(row, &map));
@@ -127,10 +132,10 @@ fn round(
 }
 
 fn random(heap: Global, tally: &mut Tally) -> Result<(), AllocError> {
-    let mut seed = 20261117;
+    let mut generator = Generator { seed: 20261117 };
     for _ in 0..6 {
         let mut row = [0; 41024];
-        round(heap, &mut seed, &mut row, tally)?;
+        round(heap, &mut generator, &mut row, tally)?;
     }
     Ok(())
 }

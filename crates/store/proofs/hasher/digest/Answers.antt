@@ -1,11 +1,10 @@
-use Rattle.std.proofs.Common.{◌∙◌, arith}
-use Rattle.store.proofs.Digests.{four_is, digest_more, digest_all}
+use Rattle.std.proofs.Common.{◌≡◌, ℕ, ◌<◌, [], get_or, ◌∙◌, rules}
+use Rattle.pages.specs.Bytes.{in_bytes}
+use Rattle.store.proofs.Digests.{digest_is, four_is}
 use Rattle.store.proofs.hasher.digest.Goals as goal
 
-pub loop-i-preserved : goal.loop-i-preserved
-loop-i-preserved c =
-    digest_more _ _ c.words-words.result _ _ c.loop-i.invariant.0 (omega arith) (omega arith) c.loop-i.invariant.1
-    (c.to_be_bytes.ensures ∙ four_is _) c.write_at.ensures
-
 pub returns : goal.returns
-returns c = digest_all _ _ _ _ c.loop-i.invariant.0 (omega arith) c.loop-i.invariant.1 c.words-words.ensures
+returns c =
+    let at : (i : ℕ) → i < 8 → get_or c.map-words.result i [] ≡ in_bytes 4 (get_or c.words.result i 0) [] =
+    λ i h. let (p, q, k) = c.map-words.ensures.items.at i 0 [] h in search rules ∙ four_is (get_or c.words.result i 0) in
+    c.copy_from_slice.ensures.after ∙ c.as_flattened.ensures.value ∙ digest_is c.args.s c.words.result c.map-words.result c.words.ensures c.map-words.ensures.items.long at
