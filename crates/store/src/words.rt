@@ -242,9 +242,8 @@ pub(crate) fn compress(s: Words, block: &[u8; 64]) -> Words
 {
     let mut w = load(block);
     let mut v = s;
-    // As it stands: with `(0..48).step_by(8)` each turn would owe that its first round is a multiple of 8 and at most 40.
-    for b in 0..6 {
-        v = eight_rounds(v, &mut w, 8 * b);
+    for t in (0..48).step_by(8) {
+        v = eight_rounds(v, &mut w, t);
     }
     s.plus(last_rounds(v, &w))
 }

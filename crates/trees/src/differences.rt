@@ -70,6 +70,7 @@ pub fn differ(old: &[u64], new: &[u64], from: Cursor) -> Option<Difference>
     let (old, new) = (entries(old), entries(new));
     let mut i = from.old;
     let mut j = from.new;
+    // As it stands: `zip` and `position` on the rests would need a saturating sum for each place and the definition restated from 0.
     while alike(old, new, i, j) {
         i += 1;
         j += 1;
