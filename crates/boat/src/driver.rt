@@ -3,13 +3,10 @@ use crate::page_file::{PAGE, PageFile};
 use crate::trouble::{Refused, Trouble, system};
 use house::tell;
 use lines::hex;
+use pages::cells::CELLS;
+use pages::machine::ROW;
 use pages::told::{Event, Told};
 use std::io::Write;
-
-// Numbers in the house's memory, and bytes in the row that it writes to.
-const MEMORY: usize = 262144;
-
-const OUT: usize = 131072;
 
 // More acts than any command makes.
 const ACTS: u64 = 1 << 40;
@@ -27,8 +24,8 @@ impl<'a> Driver<'a> {
     // A house on its own, its power just switched on.
     pub fn start(rt: &'a HostRuntime, file: PageFile) -> Result<Driver<'a>, Trouble> {
         let heap = rt.alloc();
-        let memory = vec![in heap; 0u64; MEMORY]?;
-        let out = vec![in heap; 0u8; OUT]?;
+        let memory = vec![in heap; 0u64; CELLS]?;
+        let out = vec![in heap; 0u8; ROW]?;
         let power = Event::On {
             house: 0,
             houses: 1,

@@ -5,7 +5,7 @@ use crate::engine::is_known;
 use crate::random::Dice;
 use crate::text::spelled;
 use commands::{Command, Kind, Refusal, parse};
-use device::{Device, Left};
+use device::{Device, Left, outcome};
 use pages::bytes::number;
 use plain::houses::{House, Past, Plain};
 use plain::tree::Tree;
@@ -595,15 +595,10 @@ impl Bench {
 
     // What is left of each waiting write: the digits of a number to the base 3; where there are many, the first three outcomes are all alike.
     fn outcome(&mut self, waiting: usize, i: u64) -> Result<Vec<Left>, AllocError> {
-        let mut left = Vec::new(self.heap);
         if waiting <= 5 {
-            let mut rest = i;
-            for _ in 0..waiting {
-                left.push(Left::from(rest))?;
-                rest /= 3;
-            }
-            return Ok(left);
+            return outcome(self.heap, i, waiting);
         }
+        let mut left = Vec::new(self.heap);
         let mut dice = Dice::new(self.heap, self.dice.next());
         for _ in 0..waiting {
             let digit = if i < 3 { i } else { dice.below(3) };

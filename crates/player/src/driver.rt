@@ -3,13 +3,11 @@ use crate::engine;
 use crate::text::Spaced;
 use commands::Refusal;
 use device::{Device, Left, Page};
+use pages::cells::CELLS;
+use pages::machine::ROW;
 use pages::told::{Event, Told};
 use std::alloc::{AllocError, Global};
 use std::fmt;
-
-const MEMORY: usize = 262144;
-
-const OUT: usize = 131072;
 
 // Acts that one who was written to has for its reply, and that are given to a command.
 const REPLY_ACTS: u64 = 16777216;
@@ -123,7 +121,7 @@ impl World {
 
     // Memory is all 0 when power comes.
     pub fn wake(&mut self, heap: Global) -> Result<(), AllocError> {
-        self.memory = Some(vec![in heap; 0u64; MEMORY]?);
+        self.memory = Some(vec![in heap; 0u64; CELLS]?);
         Ok(())
     }
 
@@ -181,7 +179,7 @@ impl Run {
         Ok(Run {
             next,
             letters,
-            out: vec![in heap; 0u8; OUT]?,
+            out: vec![in heap; 0u8; ROW]?,
             showed: Vec::new(heap),
             end: End::Running,
         })
