@@ -8,18 +8,15 @@ mod tests {
 
     fn is_spelled(command: Command, spelling: &[u8]) -> bool {
         let mut row = [7u8; 256];
-        match spell(command, &mut row) {
-            Some(size) => size < row.len() && &row[0..size] == spelling && row[size] == 7,
-            None => false,
-        }
+        spell(command, &mut row).is_some_and(|size| size < row.len()
+            && &row[0..size] == spelling
+            && row[size] == 7)
     }
 
     // Whether the command is spelled just so, and so is what the spelling is parsed as: no two commands are spelled alike.
     fn survives(command: Command, spelling: &[u8]) -> bool {
-        match parse(spelling) {
-            Some(again) => is_spelled(command, spelling) && is_spelled(again, spelling),
-            None => false,
-        }
+        parse(spelling).is_some_and(|again| is_spelled(command, spelling)
+            && is_spelled(again, spelling))
     }
 
     fn refused(text: &[u8]) -> bool {
@@ -121,27 +118,15 @@ mod tests {
         spell(command, &mut row).is_none() && row == [7u8; 73]
     }
 
-    fn tag_is_not_spelled(name: &[u8]) -> bool {
-        is_not_spelled(Command::Tag(name))
-    }
-
-    fn join_is_not_spelled(name: &[u8]) -> bool {
-        is_not_spelled(Command::Join(name))
-    }
-
-    fn fetch<'a>(house: u64) -> Command<'a> {
-        Command::Fetch(house)
-    }
-
     #[test]
     fn what_does_not_fit_is_not_spelled(rt: HostRuntime) {
         let name = [b'n'; 65];
-        assert!(rt; tag_is_not_spelled(&name));
-        assert!(rt; !tag_is_not_spelled(&name[0..64]));
+        assert!(rt; is_not_spelled(Command::Tag(&name)));
+        assert!(rt; !is_not_spelled(Command::Tag(&name[0..64])));
         // it fits, and takes 74 bytes
-        assert!(rt; join_is_not_spelled(&name));
-        assert!(rt; !join_is_not_spelled(&name[0..64]));
-        assert!(rt; is_not_spelled(fetch(16)));
-        assert!(rt; !is_not_spelled(fetch(15)));
+        assert!(rt; is_not_spelled(Command::Join(&name)));
+        assert!(rt; !is_not_spelled(Command::Join(&name[0..64])));
+        assert!(rt; is_not_spelled(Command::Fetch(16)));
+        assert!(rt; !is_not_spelled(Command::Fetch(15)));
     }
 }

@@ -85,6 +85,7 @@ impl Model for Device {
 }
 
 // Puts a page into its place, if there is one.
+// As it stands: by its index, here and in `bring`, since of a row after `get_mut` the library says nothing.
 fn set(pages: &mut [Page], at: usize, page: Page)
     ensures { pages.new ≡ set_page pages.old at page }
 {

@@ -39,17 +39,19 @@ impl From<u64> for Phase {
     }
 }
 
+impl Phase {
+    fn code(self) -> u64
+        ensures { result ≡ phase_code self }
+    {
+        self as u64
+    }
+}
+
 #[derive(Clone, Copy)]
 pub struct Keeper {
     pub phase: Phase,
     pub sweep: Sweep,
     pub walk: Walk,
-}
-
-fn phase_code(phase: Phase) -> u64
-    ensures { result ≡ phase_code phase }
-{
-    phase as u64
 }
 
 fn stage_code(stage: Stage) -> u64
@@ -261,7 +263,7 @@ impl Client for Keeper {
 
     fn save(&self) -> [u64; 120] {
         let mut cells = [0; 120];
-        cells[0] = phase_code(self.phase);
+        cells[0] = self.phase.code();
         cells[1..10].copy_from_slice(&walk_cells(&self.walk));
         cells[10] = stage_code(self.sweep.stage);
         cells[11] = self.sweep.at;

@@ -78,7 +78,7 @@ fn stumble(heap: Global, plan: Plan) -> Result<Counts, AllocError> {
     let mut counts = Counts::default();
     for i in 0..plan.watched {
         let mut trial = Trial::new(heap, 64, i.saturating_add(1_000), counts)?;
-        trial.watch();
+        trial.watch()?;
         for _ in 0..plan.watched_rounds {
             trial.round(4, 200)?;
             if trial.went_wrong() {

@@ -59,9 +59,8 @@ pub struct Trial {
     head: [u64; 32],
     roots: [u64; 8],
     wanted: [u64; 8],
-    // Whether each act of a command is tried with a stop; a second rig for what comes then.
-    watched: bool,
-    spare: Rig,
+    // A second rig for what comes after a stop, where each act of a command is tried with one.
+    spare: Option<Rig>,
     pub counts: Counts,
 }
 
@@ -76,14 +75,14 @@ impl Trial {
             head: [0; 32],
             roots: [0; 8],
             wanted: [0; 8],
-            watched: false,
-            spare: Rig::new(heap, pages)?,
+            spare: None,
             counts,
         })
     }
 
-    pub fn watch(&mut self) {
-        self.watched = true;
+    pub fn watch(&mut self) -> Result<(), AllocError> {
+        self.spare = Some(Rig::new(self.heap, self.pages)?);
+        Ok(())
     }
 
     pub fn went_wrong(&self) -> bool {
@@ -97,20 +96,23 @@ impl Trial {
     // COMMANDS
 
     pub fn run(&mut self, command: Command) -> Result<(), AllocError> {
-        let done = if self.watched {
-            self.run_watched(command)?
-        } else {
-            self.rig.run(command)?
+        let done = match self.spare.take() {
+            Some(mut spare) => {
+                let done = self.run_watched(&mut spare, command)?;
+                self.spare = Some(spare);
+                done
+            }
+            None => self.rig.run(command)?,
         };
         self.counts.expect(done);
         Ok(())
     }
 
-    fn run_watched(&mut self, command: Command) -> Result<bool, AllocError> {
+    fn run_watched(&mut self, spare: &mut Rig, command: Command) -> Result<bool, AllocError> {
         let before = head(&self.rig.device);
         let mut told = self.rig.say(command);
         for _ in 0..2_000u64 {
-            self.try_stops(before)?;
+            self.try_stops(spare, before)?;
             if told == Told::Done {
                 return Ok(true);
             }
@@ -120,26 +122,31 @@ impl Trial {
     }
 
     // Every outcome of a stop now, if few writes wait, or some.
-    fn try_stops(&mut self, before: [u64; 32]) -> Result<(), AllocError> {
+    fn try_stops(&mut self, spare: &mut Rig, before: [u64; 32]) -> Result<(), AllocError> {
         let waiting = self.rig.device.waiting();
         if waiting > 4 {
             for _ in 0..12 {
                 let left = self.some_outcome(waiting)?;
-                self.try_stop(&left, before)?;
+                self.try_stop(spare, &left, before)?;
             }
         } else {
             for number in 0..3u64.saturating_pow(waiting as u32) {
                 let left = outcome(self.heap, number, waiting)?;
-                self.try_stop(&left, before)?;
+                self.try_stop(spare, &left, before)?;
             }
         }
         Ok(())
     }
 
-    fn try_stop(&mut self, left: &[Left], before: [u64; 32]) -> Result<(), AllocError> {
-        self.spare.device = self.rig.device.copied()?;
-        self.spare.device.stop(left);
-        self.come_up(before)
+    fn try_stop(
+        &mut self,
+        spare: &mut Rig,
+        left: &[Left],
+        before: [u64; 32],
+    ) -> Result<(), AllocError> {
+        spare.device = self.rig.device.copied()?;
+        spare.device.stop(left);
+        self.come_up(spare, before)
     }
 
     // An outcome at random.
@@ -152,9 +159,9 @@ impl Trial {
     }
 
     // After a stop all is as before or as after the command, as the head says.
-    fn come_up(&mut self, before: [u64; 32]) -> Result<(), AllocError> {
+    fn come_up(&mut self, spare: &mut Rig, before: [u64; 32]) -> Result<(), AllocError> {
         up(&mut self.counts.stops);
-        let head = head(&self.spare.device);
+        let head = head(&spare.device);
         let roots = if head == before {
             up(&mut self.counts.old);
             self.roots
@@ -162,23 +169,23 @@ impl Trial {
             up(&mut self.counts.new);
             self.wanted
         };
-        let right = self.model.matches(&self.spare.device, &head, roots);
+        let right = self.model.matches(&spare.device, &head, roots);
         self.counts.expect(right);
         if self.random.once_in(16) {
-            self.sweep_again(roots)?;
+            self.sweep_again(spare, roots)?;
         }
         Ok(())
     }
 
     // A sweep after a stop.
-    fn sweep_again(&mut self, roots: [u64; 8]) -> Result<(), AllocError> {
+    fn sweep_again(&mut self, spare: &mut Rig, roots: [u64; 8]) -> Result<(), AllocError> {
         up(&mut self.counts.resumed);
-        self.spare.power();
-        let done = self.spare.run(Command::Sweep)?;
-        let head = head(&self.spare.device);
+        spare.power();
+        let done = spare.run(Command::Sweep)?;
+        let head = head(&spare.device);
         self.model.reach(roots);
         let pages = self.model.live_pages();
-        let right = self.model.matches(&self.spare.device, &head, roots);
+        let right = self.model.matches(&spare.device, &head, roots);
         self.counts
             .expect(done && right && head[1] == head[0].saturating_add(pages));
         Ok(())
