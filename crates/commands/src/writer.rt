@@ -56,7 +56,7 @@ fn row_size(count: usize, fewest: u16, most: u16) -> Option<usize>
     ensures is { result ≡ if_so (within fewest most count) (8 + count) }
     ensures small { IfSome result (λ n. n ≤ 65543) }
 {
-    // As it stands: `then_some` would add first, and a count that does not fit may be too high for that.
+    // As it stands: `then_some` would add first, and a closure for `then` would not know the test, without which the sum may not fit.
     if usize::from(fewest) <= count && count <= usize::from(most) {
         Some(8 + count)
     } else {
