@@ -8,6 +8,7 @@ use Rattle.pages.specs.Lists.{each, zeros}
 use Rattle.pages.specs.Device.{Page, Write, all_written, blank, left, page_at, set_page}
 use Rattle.pages.proofs.ListLaws.{pick_both}
 use Rattle.pages.proofs.DeviceLaws.{page_at_set_other}
+use Rattle.pages.proofs.TapeLaws.{page_at_set_same, length_set_page}
 use Rattle.device.specs.Held.{last_of}
 use Rattle.device.specs.Left.{code, digits}
 use Rattle.device.specs.declared.Left.{Left}
@@ -30,18 +31,6 @@ page_is [] k d h = absurd (omega arith)
 page_is (q ∷ qs) zero d h = refl
 page_is (q ∷ qs) (suc k) d h = page_is qs k d (omega arith)
 
-page_at_set : (ps : List Page) (k : ℕ) (p : Page) → k < length ps → page_at (set_page ps k p) k ≡ p
-unfolding page_at set_page
-page_at_set [] k p h = absurd (omega arith)
-page_at_set (q ∷ qs) zero p h = refl
-page_at_set (q ∷ qs) (suc k) p h = page_at_set qs k p (omega arith)
-
-pub length-set_page : (ps : List Page) (k : ℕ) (p : Page) → length (set_page ps k p) ≡ length ps
-unfolding set_page
-length-set_page [] k p = refl
-length-set_page (q ∷ qs) zero p = refl
-length-set_page (q ∷ qs) (suc k) p = ap suc (length-set_page qs k p)
-
 -- a page as the last write to its place has it is the page that is seen
 pub seen_is : (ws : List Write) (ps : List Page) (k : ℕ) → k < length ps → last_of (page_at ps k) ws k ≡ page_at (all_written ps ws) k
 unfolding all_written
@@ -49,9 +38,9 @@ seen_is [] ps k h = refl
 seen_is (w ∷ ws) ps k h =
     ap (λ p. last_of p ws k)
     (pick_both (λ p. p ≡ page_at (set_page ps w.at w.page) k) (eqb w.at k) w.page (page_at ps k)
-    (λ e. let same : w.at ≡ k = eqb-true w.at k e in sym (ap (λ j. page_at (set_page ps j w.page) k) same ∙ page_at_set ps k w.page h))
+    (λ e. let same : w.at ≡ k = eqb-true w.at k e in sym (ap (λ j. page_at (set_page ps j w.page) k) same ∙ page_at_set_same ps k w.page h))
     (λ e. sym (page_at_set_other ps w.at k w.page (eqb-false w.at k e))))
-    ∙ seen_is ws (set_page ps w.at w.page) k (omega (arith, length-set_page ps w.at w.page))
+    ∙ seen_is ws (set_page ps w.at w.page) k (omega (arith, length_set_page ps w.at w.page))
 
 pub blank_is : (n : ℕ) → replicate n (zeros 512) ≡ blank n
 unfolding blank
