@@ -8,6 +8,7 @@ pub mod SweepSteps
 pub mod LayoutLaws
 pub mod MarkLaws
 pub mod RoomLaws
+pub mod GrowLaws
 pub mod SpaceLaws
 pub mod PackLaws
 pub mod SweptLaws

@@ -133,10 +133,10 @@ module _ (from many : ℕ) (ws : List ℕ) (fits : from + many ≤ 1844674407370
 has_here : (r : ℕ) (rs : List ℕ) → has (r ∷ rs) r ≡ true
 has_here r rs = or_left (eqb r r) (has rs r) (eq-eqb r r refl)
 
-has_there : (r s : ℕ) (rs : List ℕ) → has rs s ≡ true → has (r ∷ rs) s ≡ true
+pub has_there : (r s : ℕ) (rs : List ℕ) → has rs s ≡ true → has (r ∷ rs) s ≡ true
 has_there r s rs h = or_right (eqb r s) (has rs s) h
 
-has_cases : (r s : ℕ) (rs : List ℕ) → has (r ∷ rs) s ≡ true → (r ≡ s) ⊎ (has rs s ≡ true)
+pub has_cases : (r s : ℕ) (rs : List ℕ) → has (r ∷ rs) s ≡ true → (r ≡ s) ⊎ (has rs s ≡ true)
 has_cases r s rs h = go (or_cases (eqb r s) (has rs s) h)
   where
     go : (eqb r s ≡ true) ⊎ (has rs s ≡ true) → (r ≡ s) ⊎ (has rs s ≡ true)
