@@ -1,5 +1,6 @@
 pub mod TurnLaws
 pub mod WeightLaws
+pub mod SumLaws
 pub mod FineLaws
 pub mod CarryLaws
 pub mod MorningLaws

@@ -80,7 +80,7 @@ unfolding added_up
 added_up_times c f [] = omega arith
 added_up_times c f (x ∷ xs) = ap (λ v. c * f x + v) (added_up_times c f xs) ∙ sym (mul-add c (f x) (added_up f xs))
 
-added_up_each : (f g : ℕ → ℕ) (xs : List ℕ) → added_up f (each g xs) ≡ added_up (λ x. f (g x)) xs
+pub added_up_each : {A B : Type 0} (f : B → ℕ) (g : A → B) (xs : List A) → added_up f (each g xs) ≡ added_up (λ x. f (g x)) xs
 unfolding added_up
 added_up_each f g [] = refl
 added_up_each f g (x ∷ xs) = ap (λ v. f (g x) + v) (added_up_each f g xs)
