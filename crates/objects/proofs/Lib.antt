@@ -14,3 +14,4 @@ pub mod PackLaws
 pub mod SweptLaws
 pub mod CopyLaws
 pub mod SweepLaws
+pub mod SmallLaws

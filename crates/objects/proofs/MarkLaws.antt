@@ -72,7 +72,7 @@ small_with_reference first r ws h = go (ltb first r)
     go false = h
 
 -- many of them
-small_with_references : (first : ℕ) (rs ws : List ℕ) → small ws ≡ true → small (with_references first rs ws) ≡ true
+pub small_with_references : (first : ℕ) (rs ws : List ℕ) → small ws ≡ true → small (with_references first rs ws) ≡ true
 unfolding with_references
 small_with_references first [] ws h = h
 small_with_references first (r ∷ rs) ws h = small_with_references first rs (with_reference first r ws) (small_with_reference first r ws h)

@@ -56,7 +56,7 @@ word_counts ws i zero h =
 word_counts ws i (suc k) h =
     omega (arith, count_more (bit ws) (64 * i) k, word_counts ws i k (omega arith), ones_more (get_or ws i 0) k, bit_at ws i k (omega arith))
 
-whole_counts : (ws : List ℕ) (i : ℕ) → small ws ≡ true → i ≤ length ws → count_below (bit ws) (64 * i) ≡ sum_by ones (take i ws)
+pub whole_counts : (ws : List ℕ) (i : ℕ) → small ws ≡ true → i ≤ length ws → count_below (bit ws) (64 * i) ≡ sum_by ones (take i ws)
 unfolding count_below
 whole_counts ws zero s h = refl
 whole_counts ws (suc i) s h =

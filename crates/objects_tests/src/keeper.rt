@@ -2,10 +2,11 @@
 ghost use Rattle.std.specs.Prelude.{◌≡◌, ℕ, ◌*◌, ◌≤◌, List, length, take, drop, slice_index};
 ghost use Rattle.pages.specs.Machine.{asked, capped};
 ghost use Rattle.pages.specs.Words.{over};
+ghost use Rattle.objects.specs.Cells.{stage_code, stage_in, sweep_in, walk_cells, walk_in};
 ghost use Rattle.objects.specs.Marking.{asked_on as went_on_by, begun, sought, walked, went_on};
 ghost use Rattle.objects.specs.Plan.{head_at, plan_end};
 ghost use Rattle.objects.specs.Sweeping.{sweep_begun, sweep_went_on, swung};
-ghost use Rattle.objects_tests.specs.Keeper.{keeper_client, KeeperSweeps, KeeperWalks, LoadsSaved, phase_code, phase_in, phase_said, request_said, said as said_at, stage_code, stage_in, surveyed, surveying, sweep_in, sweeping, swept, walk_cells, walk_in, walk_said, window_in};
+ghost use Rattle.objects_tests.specs.Keeper.{keeper_client, KeeperSweeps, KeeperWalks, LoadsSaved, phase_code, phase_in, phase_said, request_said, said as said_at, surveyed, surveying, sweeping, swept, walk_said, window_in};
 
 use objects::mark::{Key, Walk};
 use objects::sweep::{Stage, Sweep};

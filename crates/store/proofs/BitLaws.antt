@@ -55,7 +55,7 @@ bits_set ws u v = (go (cases_eq u v) (cases_lt u (64 * length ws)), length-set w
     go (inr n) h = set_elsewhere ws u v n ∙ sym (ap (λ b. or b (bit ws v)) (and_left (eqb u v) (ltb u (64 * length ws)) (ne_eqb u v n)))
 
 -- words stay below 2^64
-small_set : (ws : List ℕ) (i w : ℕ) → small ws ≡ true → w < 2 ^ 64 → small (set ws i w) ≡ true
+pub small_set : (ws : List ℕ) (i w : ℕ) → small ws ≡ true → w < 2 ^ 64 → small (set ws i w) ≡ true
 small_set [] i w h l = h
 small_set (x ∷ ws) zero w h l = small_from w ws l (small_first x ws h).1
 small_set (x ∷ ws) (suc i) w h l = small_from x (set ws i w) (small_first x ws h).0 (small_set ws i w (small_first x ws h).1 l)

@@ -1,6 +1,7 @@
 use Rattle.std.proofs.Common.{◌≡◌, ◌∷◌, ◌++◌, ◌∙◌, ap₂}
 use Rattle.pages.specs.Lists.{zeros}
-use Rattle.objects_tests.specs.Keeper.{keeper_saves, walk_cells}
+use Rattle.objects.specs.Cells.{walk_cells}
+use Rattle.objects_tests.specs.Keeper.{keeper_saves}
 use Rattle.objects_tests.proofs.keeper.KeeperClient.save.Goals as goal
 
 pub returns : goal.returns
