@@ -1,5 +1,5 @@
 -- A client for tests: it makes the one request that is said, or sweeps, or surveys what is live. Assumes nothing: these are definitions.
-use Rattle.std.specs.Prelude.{◌≡◌, ℕ, ◌-◌, ◌*◌, List, [], ◌∷◌, ◌++◌, length, take, drop, ◌==◌, nat_lt, slice_index, slice_set}
+use Rattle.std.specs.Prelude.{◌≡◌, ℕ, ◌-◌, ◌*◌, List, ◌∷◌, ◌++◌, length, take, drop, ◌==◌, nat_lt, slice_index, slice_set}
 use Rattle.pages.specs.Bytes.{from_bytes}
 use Rattle.pages.specs.Lists.{pick, zeros}
 use Rattle.pages.specs.Engine.{Housed, housed}
