@@ -8,3 +8,5 @@ pub mod Simulation
 pub mod OnTape
 pub mod Nothing
 pub mod Started
+pub mod DeskLaws
+pub mod Sheets

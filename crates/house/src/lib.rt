@@ -8,7 +8,7 @@ ghost use Rattle.std.specs.Prelude.{◌≡◌, ◌<◌, ◌≤◌, take, drop, M
 
 pub mod client;
 pub mod control;
-mod desk;
+
 pub mod laws;
 pub mod promise;
 

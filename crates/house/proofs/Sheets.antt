@@ -1,0 +1,276 @@
+-- How the house that keeps sheets in work goes on its tape, phase by phase, whatever is asked of stops and of the end. Assumes nothing.
+use Rattle.std.proofs.Common.{◌≡◌, ℕ, ◌+◌, ◌-◌, ◌*◌, ◌/◌, ◌<◌, ◌≤◌, min, max, Bool, true, false, ◌&&◌, eqb, ltb, ◌⊎◌, List, [], ◌∷◌, ◌++◌, length, get_or, take, drop, Some, None, Option, sym, refl, ap, ◌∙◌, subst, ap₂, inl, inr, arith, length-append, length-drop, length-take}
+use Rattle.std.proofs.lemmas.List.{take_at, take_all, length-take-le, take-append-le}
+use Rattle.std.proofs.lemmas.Bool.{le-ltb, lt-ltb, eq-eqb, ne_eqb, eqb-true, ltb-true, and_parts}
+use lib.Seq.{take-append-add}
+use Rattle.pages.specs.Lists.{pick, each, has, zeros, added_up}
+use Rattle.pages.specs.Object.{size_in, references_in, references_of, object_at}
+use Rattle.pages.specs.Bytes.{all_bytes}
+use Rattle.pages.specs.Words.{over, small, bytes_of, words}
+use Rattle.pages.specs.Crash.{Rows}
+use Rattle.pages.specs.Engine.{bulk_cells}
+use Rattle.pages.specs.Machine.{Asked, asked, capped, buffer_words, wanted}
+use Rattle.pages.specs.Tape.{first_page, last_page, published, Window, Does, recalls, looks, opens, lays, publishes, rows, finishes}
+use Rattle.pages.specs.declared.machine.Request.TheVariants.{Recall, Object, Lay, Publish, Show, Done, Refuse}
+use Rattle.pages.proofs.ListLaws.{pick_true, pick_false, pick_both}
+use Rattle.pages.proofs.WordLaws.{length_over, length_words, length_bytes_of, bytes_of_append}
+use Rattle.objects.specs.Plan.{head_at, plan_end}
+use Rattle.objects.specs.Heap.{Heap, Lives, Placed, units, units_at, heading_at}
+use Rattle.objects.specs.Marking.{key_words}
+use Rattle.objects.specs.Layouts.{words_for, packed_bytes, file_object, file_read}
+use Rattle.objects.proofs.LayoutLaws.{reads_back, bytes_back}
+use Rattle.objects.specs.Sweeping.{roots_of, swung, sweep_begun, sweep_went_on, Swept, Sweeps}
+use Rattle.objects.specs.declared.sweep.Sweep.{Sweep}
+use Rattle.objects.proofs.SweepLaws.{sweeps}
+use Rattle.trees.specs.Tree.{Tree}
+use Rattle.trees.specs.Row.{room}
+use Rattle.trees.specs.RowOf.{RowOf}
+use Rattle.trees.specs.Packed.{spread_into}
+use Rattle.trees.specs.RowPromises.{EmptyRight}
+use Rattle.trees.proofs.RowOfLaws.{empty_right}
+use Rattle.history.specs.Book.{Sum}
+use Rattle.commands.specs.Command.{a_text}
+use Rattle.house.specs.Control.{row_at, row_words, path_at, desk_end, row_of, with_row, emptied, head_word, at_phase, controlling, control_resumes, resumed, recalled, started, lays as lays_any, tight, sweeping, again, load, loaded, opened, file_came, sum_key}
+use Rattle.house.specs.Shelf.{bytes_at, FileAt, WorkAt, TreeAt, work_root}
+use Rattle.house.specs.declared.control.Control.{Control}
+use Rattle.house.specs.declared.control.Phase.{Phase}
+use Rattle.house.specs.declared.control.Phase.TheVariants.{Recalling, Loading, Opening, Showing}
+use Rattle.house.proofs.DeskLaws.{part_alike, rest_alike, Desk, desk_front, desk_head, desk_row, desk_row_front, row_long, head_word_is}
+
+-- an object that stands in its place is as long as it says
+pub object_long : (t : List ℕ) (lo hi r : ℕ) → 8 * hi ≤ length t → Placed t lo hi r → length (object_at t r) ≡ size_in (heading_at t r)
+unfolding object_at
+object_long t lo hi r fits q =
+    length-take-le (size_in (heading_at t r)) (drop (8 * (r - 1)) t) (omega (arith, q.within, length-drop (8 * (r - 1)) t))
+
+-- a text's length and bytes
+pub text_parts : (b : List ℕ) → a_text b ≡ true → (length b < 65536) × (all_bytes b ≡ true)
+text_parts b e = (ltb-true (length b) 65536 (and_parts (ltb (length b) 65536) (all_bytes b) e).0, (and_parts (ltb (length b) 65536) (all_bytes b) e).1)
+
+-- a row of the house's own length has room for 4,096 files
+pub row_two : (ws : List ℕ) → length ws ≡ row_words → 2 ≤ length ws
+row_two ws l = omega (arith, l)
+
+pub row_room : (ws : List ℕ) → length ws ≡ row_words → room ws ≡ 4096
+row_room ws l = omega (arith, l)
+
+-- bytes that stand packed in front of the buffer are shown as they were
+pub shown_bytes : (b m : List ℕ) → all_bytes b ≡ true → length b ≤ 131072 → take (length b) (bytes_of (take 16384 (over 0 (packed_bytes b) m))) ≡ b
+shown_bytes b m ok few =
+    ap (λ x. take (length b) (bytes_of x)) front
+    ∙ ap (take (length b)) (bytes_of_append (packed_bytes b) (take (16384 - length (packed_bytes b)) (drop (0 + length (packed_bytes b)) m)))
+    ∙ take-append-le (length b) (bytes_of (packed_bytes b)) (bytes_of (take (16384 - length (packed_bytes b)) (drop (0 + length (packed_bytes b)) m)))
+    (omega (arith, length_bytes_of (packed_bytes b), long))
+    ∙ bytes_back b ok
+  where
+    long : length (packed_bytes b) ≡ words_for (length b)
+    long = length_words (words_for (length b)) (b ++ zeros 7)
+
+    e : 16384 ≡ length (packed_bytes b) + (16384 - length (packed_bytes b))
+    e = omega (arith, long)
+
+    front : take 16384 (over 0 (packed_bytes b) m) ≡ packed_bytes b ++ take (16384 - length (packed_bytes b)) (drop (0 + length (packed_bytes b)) m)
+    front =
+        ap (λ i. take i (packed_bytes b ++ drop (0 + length (packed_bytes b)) m)) e
+        ∙ take-append-add (packed_bytes b) (drop (0 + length (packed_bytes b)) m) (16384 - length (packed_bytes b))
+
+-- four words of a sum, as a key
+pub sum_words : (bs : List ℕ) → key_words (sum_key bs) ≡ words 4 bs
+unfolding words
+sum_words bs = refl
+
+module _ (sum : Sum) (n : ℕ) (Stop : List ℕ → List ℕ → Rows → Type 0) (End : Control → List ℕ → List ℕ → List ℕ → ℕ → Rows → ℕ → Type 0) where
+  abbrev pub Well : Asked Control → List ℕ → List ℕ → ℕ → Rows → Type 0
+  Well a h t laid ss = Does (controlling sum) n Stop End a h t laid ss
+
+  pub goes_on : (k : Control) (m h t : List ℕ) (laid : ℕ) (ss : Rows) → length m ≡ bulk_cells → Well (resumed k m k.phase) h t laid ss → Well (control_resumes k m) h t laid ss
+  goes_on k m h t laid ss l d =
+      subst (λ (x : Asked Control). Well x h t laid ss) (sym (pick_false (ltb (length m) desk_end) (asked k m (Refuse 2)) (resumed k m k.phase) (le-ltb (length m) desk_end (omega arith)))) d
+
+  -- the head is recalled
+  pub recalls_head : (k : Control) (h₀ ws d m h t : List ℕ) (laid : ℕ) (ss : Rows) → Desk h₀ ws d m →
+      ((m₁ : List ℕ) → Desk h ws d m₁ → Well (recalled (at_phase Recalling k) m₁) h t laid ss) → Well (asked (at_phase Recalling k) m Recall) h t laid ss
+  recalls_head k h₀ ws d m h t laid ss desk on =
+      recalls (asked (at_phase Recalling k) m Recall) h t laid ss refl
+      (λ hl hs.
+      let front : Desk h₀ ws d (over 0 h m) = desk_front h₀ ws d m h (omega (arith, hl)) desk in
+      goes_on (at_phase Recalling k) (over 0 h m) h t laid ss front.long
+      (subst (λ (x : List ℕ). Well (recalled (at_phase Recalling k) (over head_at x (over 0 h m))) h t laid ss) (sym (take_at h (drop (0 + length h) m) 32 hl))
+      (on (over head_at h (over 0 h m)) (desk_head h₀ h ws d (over 0 h m) hl front))))
+
+  -- an object is asked for
+  pub opens_object : (k : Control) (m h t : List ℕ) (laid r : ℕ) (ss : Rows) → length t ≡ 64 * laid → 64 * laid < 18446744073709551616 →
+      Placed t (8 * first_page h) (8 * laid) r → Well (control_resumes k (over 0 (object_at t r) m)) h t laid ss →
+      Well (asked k m (Object (capped (8 * (r - 1))) buffer_words)) h t laid ss
+  unfolding object_at
+  opens_object k m h t laid r ss tl small_tape q on =
+      subst (λ (a : ℕ). Does (controlling sum) n Stop End (asked k m (Object a buffer_words)) h t laid ss) (sym at_is)
+      (opens (asked k m (Object (8 * (r - 1)) buffer_words)) h t laid ss (8 * (r - 1)) buffer_words refl (omega (arith, q.above)) (omega (arith, q.within, size_is))
+      (λ s. subst (λ (x : ℕ). Does (controlling sum) n Stop End (control_resumes k (over 0 (take x (drop (8 * (r - 1)) t)) m)) h t laid ss) (sym size_is) on))
+    where
+      size_is : wanted buffer_words (get_or t (8 * (r - 1)) 0) ≡ size_in (heading_at t r)
+      size_is = omega (arith, q.whole, q.short)
+
+      at_is : capped (8 * (r - 1)) ≡ 8 * (r - 1)
+      at_is = omega (arith, q.within)
+
+  -- where the ring is tight it is swept, and the task begins anew; then, or at once, it starts
+  pub begins : (k : Control) (ws d m h t : List ℕ) (ss : Rows) (ls : List ℕ) → n < 1048576 → Desk h ws d m → Window n h t (last_page h) →
+      Heap t (8 * first_page h) (8 * last_page h) (roots_of h) → Lives t (roots_of h) ls →
+      last_page h + (added_up (units_at t) ls + 7) / 8 ≤ first_page h + n → 64 * (last_page h + (added_up (units_at t) ls + 7) / 8 + 1) < 18446744073709551616 →
+      ((t₁ h₁ : List ℕ) → Swept t h t₁ h₁ ls → Stop h₁ t₁ ss) →
+      (lays_any k.task && tight k.pages m ≡ false → Well (started k m k.task) h t (last_page h) ss) →
+      ((t₁ h₁ m₁ : List ℕ) (v : Sweep) → Swept t h t₁ h₁ ls → Desk h₁ ws d m₁ → Well (recalled (at_phase Recalling (sweeping k v)) m₁) h₁ t₁ (last_page h₁) ss) →
+      Well (recalled k m) h t (last_page h) ss
+  unfolding Sweeps
+  begins k ws d m h t ss ls few desk win heap lives fits bound stop now then =
+      pick_both (λ x. Well x h t (last_page h) ss) (lays_any k.task && tight k.pages m) _ _
+      (λ y. sweeps Stop End (controlling sum) n (sweeping k) (again k) sweeps_in h t ss m ls k.sweep win few desk.long desk.head heap lives fits bound stop
+      (λ t₁ h₁ v m₁ swept long behind.
+      recalls_head (sweeping k v) (take 32 (drop head_at m₁)) ws d m₁ h₁ t₁ (last_page h₁) ss (again_desk m₁ long behind)
+      (λ m₂ desk₂. then t₁ h₁ m₂ v swept desk₂)))
+      now
+    where
+      sweeps_in : (v : Sweep) (m : List ℕ) → length m ≡ bulk_cells → control_resumes (sweeping k v) m ≡ swung (sweeping k) (again k) (sweep_went_on v m)
+      sweeps_in v m l = pick_false (ltb (length m) desk_end) _ _ (le-ltb (length m) desk_end (omega arith))
+
+      again_desk : (m₁ : List ℕ) → length m₁ ≡ bulk_cells → ((i : ℕ) → plan_end ≤ i → get_or m₁ i 0 ≡ get_or m i 0) → Desk (take 32 (drop head_at m₁)) ws d m₁
+      again_desk m₁ long behind =
+          record {
+            long = long;
+            head = refl;
+            row = part_alike row_at row_words m₁ m (long ∙ sym desk.long) (λ i a b. behind i (omega arith)) ∙ desk.row;
+            said = rest_alike path_at m₁ m (long ∙ sym desk.long) (λ i a. behind i (omega arith)) ∙ desk.said;
+          }
+
+  -- the tree in work is loaded
+  module _ (long : (xs ws : List ℕ) → length (spread_into xs ws) ≡ length ws) where
+    pub loads_tree : (k : Control) (ws d m h t : List ℕ) (laid : ℕ) (ss : Rows) (tree : Tree) → Desk h ws d m → length t ≡ 64 * laid →
+        64 * laid < 18446744073709551616 → WorkAt t (work_root h) tree →
+        (1 ≤ work_root h → Placed t (8 * first_page h) (8 * laid) (work_root h)) → length tree ≤ 4096 →
+        ((p : Phase) (ws₁ m₁ : List ℕ) → Desk h ws₁ d m₁ → RowOf (bytes_at t) ws₁ tree → Well (loaded (at_phase p k) m₁ k.task) h t laid ss) →
+        Well (load k m) h t laid ss
+    unfolding EmptyRight
+    loads_tree k ws d m h t laid ss tree desk tl small_tape (inl (none, empty)) placed few on =
+        subst (λ (x : Asked Control). Does (controlling sum) n Stop End x h t laid ss)
+        (sym (pick_true (eqb (head_word m 2) 0) _ _ (eq-eqb (head_word m 2) 0 (head_word_is h ws d m 2 (omega arith) desk ∙ none))))
+        (on k.phase (over 0 (0 ∷ 0 ∷ []) ws) (emptied row_at m) (desk_row_front h ws d m (0 ∷ 0 ∷ []) (omega arith) desk)
+        (subst (RowOf (bytes_at t) (over 0 (0 ∷ 0 ∷ []) ws)) (sym empty) (empty_right (bytes_at t) (over 0 (0 ∷ 0 ∷ []) ws) (omega arith) refl refl)))
+    loads_tree k ws d m h t laid ss tree desk tl small_tape (inr kept) placed few on =
+        subst (λ (x : Asked Control). Does (controlling sum) n Stop End x h t laid ss)
+        (sym (pick_false (eqb (head_word m 2) 0) _ _ (ne_eqb (head_word m 2) 0 (λ z. omega (arith, kept.one, word)))))
+        (subst (λ (x : ℕ). Does (controlling sum) n Stop End (asked (at_phase Loading k) m (Object (capped (8 * (x - 1))) buffer_words)) h t laid ss) (sym word)
+        (opens_object (at_phase Loading k) m h t laid r ss tl small_tape q
+        (goes_on (at_phase Loading k) m₁ h t laid ss desk₁.long
+        (on Loading (spread_into (take buffer_words m₁) (row_of m₁)) (with_row (spread_into (take buffer_words m₁) (row_of m₁)) m₁)
+        (desk_row h ws (spread_into (take buffer_words m₁) (row_of m₁)) d m₁ (long (take buffer_words m₁) (row_of m₁) ∙ ap length desk₁.row ∙ row_long h ws d m₁ desk₁) desk₁)
+        (subst (λ (x : List ℕ). RowOf (bytes_at t) (spread_into x (row_of m₁)) tree) (sym front) spread)))))
+      where
+        r : ℕ
+        r = work_root h
+
+        word : head_word m 2 ≡ r
+        word = head_word_is h ws d m 2 (omega arith) desk
+
+        q : Placed t (8 * first_page h) (8 * laid) (work_root h)
+        q = placed kept.one
+
+        o : List ℕ
+        o = object_at t (work_root h)
+
+        m₁ : List ℕ
+        m₁ = over 0 (object_at t (work_root h)) m
+
+        o_long : length (object_at t (work_root h)) ≡ size_in (heading_at t (work_root h))
+        o_long = object_long t (8 * first_page h) (8 * laid) (work_root h) (omega (arith, tl)) q
+
+        desk₁ : Desk h ws d (over 0 (object_at t (work_root h)) m)
+        desk₁ = desk_front h ws d m (object_at t (work_root h)) (omega (arith, o_long, q.short)) desk
+
+        z : List ℕ
+        z = take (buffer_words - length (object_at t (work_root h))) (drop (0 + length (object_at t (work_root h))) m)
+
+        e : buffer_words ≡ length (object_at t (work_root h)) + (buffer_words - length (object_at t (work_root h)))
+        e = omega (arith, o_long, q.short)
+
+        front : take buffer_words (over 0 (object_at t (work_root h)) m) ≡ object_at t (work_root h) ++ take (buffer_words - length (object_at t (work_root h))) (drop (0 + length (object_at t (work_root h))) m)
+        front =
+            ap (λ i. take i (object_at t (work_root h) ++ drop (0 + length (object_at t (work_root h))) m)) e
+            ∙ take-append-add (object_at t (work_root h)) (drop (0 + length (object_at t (work_root h))) m) (buffer_words - length (object_at t (work_root h)))
+
+        row_is_long : length (row_of (over 0 (object_at t (work_root h)) m)) ≡ row_words
+        row_is_long = ap length desk₁.row ∙ row_long h ws d m₁ desk₁
+
+        spread : RowOf (bytes_at t) (spread_into (object_at t (work_root h) ++ take (buffer_words - length (object_at t (work_root h))) (drop (0 + length (object_at t (work_root h))) m)) (row_of (over 0 (object_at t (work_root h)) m))) tree
+        spread = (kept.spreads z (row_of m₁) (row_two (row_of m₁) row_is_long) (subst (λ i. length tree ≤ i) (sym (row_room (row_of m₁) row_is_long)) few)).1
+
+  -- a file is asked for, and its bytes are shown
+  pub shows_file : (k : Control) (ws d m h t : List ℕ) (laid r : ℕ) (ss : Rows) → Desk h ws d m → length t ≡ 64 * laid → 64 * laid < 18446744073709551616 →
+      Placed t (8 * first_page h) (8 * laid) r → FileAt sum t r → Stop h (published h t) (ss ++ bytes_at t r ∷ []) →
+      ((p : Phase) (m₁ : List ℕ) → End (at_phase p k) m₁ h t laid (ss ++ bytes_at t r ∷ []) 0) → Well (opened k m (Some r)) h t laid ss
+  shows_file k ws d m h t laid r ss desk tl small_tape q f stop end =
+      opens_object (at_phase Opening k) m h t laid r ss tl small_tape q
+      (goes_on (at_phase Opening k) m₁ h t laid ss desk₁.long
+      (subst (λ (x : Option ℕ). Well (file_came (at_phase Opening k) m₁ x) h t laid ss) (sym came)
+      (subst (λ (x : Asked Control). Well x h t laid ss) (sym asked_is)
+      (rows (asked (at_phase Showing k) m₂ (Show (length b))) h t laid ss (length b) refl (omega (arith, short))
+      (subst (λ (x : List ℕ). Stop h (published h t) (ss ++ x ∷ [])) (sym shown) stop)
+      (goes_on (at_phase Showing k) m₂ h t laid _ desk₂.long
+      (finishes (asked (at_phase Showing k) m₂ Done) h t laid _ 0 refl (omega arith)
+      (subst (λ (x : List ℕ). End (at_phase Showing k) m₂ h t laid (ss ++ x ∷ []) 0) (sym shown) (end Showing m₂))))))))
+    where
+      b : List ℕ
+      b = bytes_at t r
+
+      ok : (length (bytes_at t r) < 65536) × (all_bytes (bytes_at t r) ≡ true)
+      ok = text_parts (bytes_at t r) f.text
+
+      short : length (bytes_at t r) < 65536
+      short = ok.0
+
+      file : List ℕ
+      file = file_object (key_words (sum_key (sum (bytes_at t r)))) (length (bytes_at t r)) (packed_bytes (bytes_at t r))
+
+      is : object_at t r ≡ file_object (key_words (sum_key (sum (bytes_at t r)))) (length (bytes_at t r)) (packed_bytes (bytes_at t r))
+      is = f.is ∙ ap (λ x. file_object x (length (bytes_at t r)) (packed_bytes (bytes_at t r))) (sym (sum_words (sum (bytes_at t r))))
+
+      packed_long : length (packed_bytes (bytes_at t r)) ≡ words_for (length (bytes_at t r))
+      packed_long = length_words (words_for (length (bytes_at t r))) (bytes_at t r ++ zeros 7)
+
+      m₁ : List ℕ
+      m₁ = over 0 (object_at t r) m
+
+      desk₁ : Desk h ws d (over 0 (object_at t r) m)
+      desk₁ = desk_front h ws d m (object_at t r) (omega (arith, object_long t (8 * first_page h) (8 * laid) r (omega (arith, tl)) q, q.short)) desk
+
+      rest : List ℕ
+      rest = drop (0 + length (object_at t r)) m
+
+      m₁_is : over 0 (object_at t r) m ≡ file ++ rest
+      m₁_is = ap (λ x. x ++ drop (0 + length (object_at t r)) m) is
+
+      came : file_read (over 0 (object_at t r) m) ≡ Some (length (bytes_at t r))
+      came =
+          ap file_read m₁_is
+          ∙ reads_back.file (sum_key (sum (bytes_at t r))) (length (bytes_at t r)) (packed_bytes (bytes_at t r)) rest (omega (arith, packed_long, short))
+          (omega (arith, ap length m₁_is, desk₁.long))
+
+      m₂ : List ℕ
+      m₂ = over 0 (packed_bytes (bytes_at t r)) (over 0 (object_at t r) m)
+
+      desk₂ : Desk h ws d (over 0 (packed_bytes (bytes_at t r)) (over 0 (object_at t r) m))
+      desk₂ = desk_front h ws d m₁ (packed_bytes (bytes_at t r)) (omega (arith, packed_long, short)) desk₁
+
+      least : min (length (bytes_at t r)) 65535 ≡ length (bytes_at t r)
+      least = omega (arith, short)
+
+      moved : take (words_for (min (length (bytes_at t r)) 65535)) (drop 6 (over 0 (object_at t r) m)) ≡ packed_bytes (bytes_at t r)
+      moved =
+          ap (λ i. take (words_for i) (drop 6 m₁)) least ∙ ap (λ i. take i (drop 6 m₁)) (sym packed_long) ∙ ap (λ x. take (length (packed_bytes (bytes_at t r))) (drop 6 x)) m₁_is
+          ∙ reads_back.file_words (sum_key (sum (bytes_at t r))) (length (bytes_at t r)) (packed_bytes (bytes_at t r)) rest
+
+      asked_is : file_came (at_phase Opening k) m₁ (Some (length b)) ≡ asked (at_phase Showing k) m₂ (Show (length b))
+      asked_is = ap₂ (λ x i. asked (at_phase Showing k) (over 0 x m₁) (Show i)) moved least
+
+      shown : take (length (bytes_at t r)) (bytes_of (take 16384 m₂)) ≡ bytes_at t r
+      shown = shown_bytes (bytes_at t r) m₁ ok.1 (omega (arith, short))
