@@ -1,7 +1,7 @@
 -- How the house that keeps sheets in work goes on its tape, phase by phase, whatever is asked of stops and of the end. Assumes nothing.
-use Rattle.std.proofs.Common.{◌≡◌, ℕ, ◌+◌, ◌-◌, ◌*◌, ◌/◌, ◌<◌, ◌≤◌, min, max, Bool, true, false, ◌&&◌, eqb, ltb, ◌⊎◌, List, [], ◌∷◌, ◌++◌, length, get_or, take, drop, Some, None, Option, sym, refl, ap, ◌∙◌, subst, ap₂, inl, inr, arith, length-append, length-drop, length-take}
-use Rattle.std.proofs.lemmas.List.{take_at, take_all, length-take-le, take-append-le}
-use Rattle.std.proofs.lemmas.Bool.{le-ltb, lt-ltb, eq-eqb, ne_eqb, eqb-true, ltb-true, and_parts}
+use Rattle.std.proofs.Common.{◌≡◌, ℕ, ◌+◌, ◌-◌, ◌*◌, ◌/◌, ◌<◌, ◌≤◌, min, max, Bool, true, false, ◌&&◌, eqb, ltb, leb, ◌⊎◌, List, [], ◌∷◌, ◌++◌, length, get_or, take, drop, Some, None, Option, sym, refl, ap, ◌∙◌, subst, ap₂, inl, inr, arith, length-append, length-drop, length-take}
+use Rattle.std.proofs.lemmas.List.{take_at, take_all, length-take-le, take-append-le, take-take, take-append-drop, drop-append-le, append_assoc}
+use Rattle.std.proofs.lemmas.Bool.{le-ltb, lt-ltb, eq-eqb, ne_eqb, eqb-true, ltb-true, le-leb, leb-true, and_parts}
 use lib.Seq.{take-append-add}
 use Rattle.pages.specs.Lists.{pick, each, has, zeros, added_up}
 use Rattle.pages.specs.Object.{size_in, references_in, references_of, object_at}
@@ -23,18 +23,21 @@ use Rattle.objects.specs.Sweeping.{roots_of, swung, sweep_begun, sweep_went_on, 
 use Rattle.objects.specs.declared.sweep.Sweep.{Sweep}
 use Rattle.objects.proofs.SweepLaws.{sweeps}
 use Rattle.trees.specs.Tree.{Tree}
-use Rattle.trees.specs.Row.{room}
+use Rattle.trees.specs.Row.{room, held, entries_of}
 use Rattle.trees.specs.RowOf.{RowOf}
-use Rattle.trees.specs.Packed.{spread_into}
+use Rattle.trees.specs.Packed.{spread_into, squeezed, squeeze_into, squeeze_answer, packed_all}
+use Rattle.trees.specs.StoredPromises.{TreeObject}
+use Rattle.trees.proofs.ObjectLaws.{stored_objects}
+use Rattle.trees.proofs.StoredLaws.{length_squeezed}
 use Rattle.trees.specs.RowPromises.{EmptyRight}
 use Rattle.trees.proofs.RowOfLaws.{empty_right}
 use Rattle.history.specs.Book.{Sum}
 use Rattle.commands.specs.Command.{a_text}
-use Rattle.house.specs.Control.{row_at, row_words, path_at, desk_end, row_of, with_row, emptied, head_word, at_phase, controlling, control_resumes, resumed, recalled, started, lays as lays_any, tight, sweeping, again, load, loaded, opened, file_came, sum_key}
+use Rattle.house.specs.Control.{row_at, row_words, path_at, desk_end, row_of, with_row, emptied, head_word, at_phase, controlling, control_resumes, resumed, recalled, started, lays as lays_any, tight, sweeping, again, load, loaded, publish, new_head, pages_of, laid_from, laying, reference_at, squeezed_in, tree_put, lay_tree, opened, file_came, sum_key}
 use Rattle.house.specs.Shelf.{bytes_at, FileAt, WorkAt, TreeAt, work_root}
 use Rattle.house.specs.declared.control.Control.{Control}
 use Rattle.house.specs.declared.control.Phase.{Phase}
-use Rattle.house.specs.declared.control.Phase.TheVariants.{Recalling, Loading, Opening, Showing}
+use Rattle.house.specs.declared.control.Phase.TheVariants.{Recalling, Loading, LayingTree, Publishing, Opening, Showing}
 use Rattle.house.proofs.DeskLaws.{part_alike, rest_alike, Desk, desk_front, desk_head, desk_row, desk_row_front, row_long, head_word_is}
 
 -- an object that stands in its place is as long as it says
@@ -78,6 +81,31 @@ shown_bytes b m ok few =
 pub sum_words : (bs : List ℕ) → key_words (sum_key bs) ≡ words 4 bs
 unfolding words
 sum_words bs = refl
+
+-- the row is stored in front of the buffer
+squeeze_fits : (ws m : List ℕ) → length m ≡ bulk_cells → leb (length (squeezed ws)) (length (take buffer_words m)) ≡ true
+squeeze_fits ws m l = le-leb (length (squeezed ws)) (length (take buffer_words m)) (omega (arith, length-take-le buffer_words m (omega (arith, l)), tree.most))
+  where
+    tree : TreeObject ws
+    tree = stored_objects ws
+
+squeeze_answers : (ws m : List ℕ) → row_of m ≡ ws → length m ≡ bulk_cells → squeeze_answer (row_of m) (take buffer_words m) ≡ Some (length (squeezed ws))
+unfolding squeeze_answer
+squeeze_answers ws m e l =
+    ap (λ x. squeeze_answer x (take buffer_words m)) e
+    ∙ pick_true (leb (length (squeezed ws)) (length (take buffer_words m))) (Some (length (squeezed ws))) None (squeeze_fits ws m l)
+
+squeezes_front : (ws m : List ℕ) → row_of m ≡ ws → length m ≡ bulk_cells → squeezed_in m ≡ over 0 (squeezed ws) m
+unfolding squeeze_into
+squeezes_front ws m e l =
+    ap (λ x. squeeze_into x (take buffer_words m) ++ drop buffer_words m) e
+    ∙ ap (λ x. x ++ drop buffer_words m) (pick_true (leb (length (squeezed ws)) (length (take buffer_words m))) (squeezed ws ++ drop (length (squeezed ws)) (take buffer_words m)) (take buffer_words m) (squeeze_fits ws m l))
+    ∙ append_assoc (squeezed ws) (drop (length (squeezed ws)) (take buffer_words m)) (drop buffer_words m)
+    ∙ ap (λ x. squeezed ws ++ x) (sym (drop-append-le (length (squeezed ws)) (take buffer_words m) (drop buffer_words m) (leb-true (length (squeezed ws)) (length (take buffer_words m)) (squeeze_fits ws m l)))
+    ∙ ap (drop (length (squeezed ws))) (take-append-drop buffer_words m) ∙ ap (λ i. drop i m) none)
+  where
+    none : length (squeezed ws) ≡ 0 + length (squeezed ws)
+    none = omega arith
 
 module _ (sum : Sum) (n : ℕ) (Stop : List ℕ → List ℕ → Rows → Type 0) (End : Control → List ℕ → List ℕ → List ℕ → ℕ → Rows → ℕ → Type 0) where
   abbrev pub Well : Asked Control → List ℕ → List ℕ → ℕ → Rows → Type 0
@@ -274,3 +302,94 @@ module _ (sum : Sum) (n : ℕ) (Stop : List ℕ → List ℕ → Rows → Type 0
 
       shown : take (length (bytes_at t r)) (bytes_of (take 16384 m₂)) ≡ bytes_at t r
       shown = shown_bytes (bytes_at t r) m₁ ok.1 (omega (arith, short))
+
+  -- the new head is published, and that is all
+  pub publishes_head : (k : Control) (ws d m h t : List ℕ) (laid page root : ℕ) (ss : Rows) → Desk h ws d m → length h ≡ 32 → first_page h ≤ page → page ≤ laid →
+      Stop (first_page h ∷ page ∷ root ∷ drop 3 h) (published (first_page h ∷ page ∷ root ∷ drop 3 h) t) ss →
+      ((p : Phase) (m₁ : List ℕ) → End (at_phase p k) m₁ (first_page h ∷ page ∷ root ∷ drop 3 h) t laid ss 0) → Well (publish k m page root) h t laid ss
+  publishes_head k ws d m h t laid page root ss desk hl from to stop end =
+      publishes (asked (at_phase Publishing k) m₁ Publish) h t laid ss refl (omega (arith, first_is)) (omega (arith, first_is, last_is)) (omega (arith, last_is))
+      (subst (λ (x : List ℕ). Stop x (published x t) ss) (sym front) stop)
+      (subst (λ (x : List ℕ). Well (control_resumes (at_phase Publishing k) m₁) x t laid ss) (sym front)
+      (goes_on (at_phase Publishing k) m₁ h₁ t laid ss (length_over 0 (new_head page root m) m (omega (arith, long, desk.long)) ∙ desk.long)
+      (finishes (asked (at_phase Publishing k) m₁ Done) h₁ t laid ss 0 refl (omega arith) (end Publishing m₁))))
+    where
+      h₁ : List ℕ
+      h₁ = first_page h ∷ page ∷ root ∷ drop 3 h
+
+      m₁ : List ℕ
+      m₁ = over 0 (new_head page root m) m
+
+      is : new_head page root m ≡ first_page h ∷ page ∷ root ∷ drop 3 h
+      is = ap₂ (λ x ys. x ∷ page ∷ root ∷ drop 3 ys) (head_word_is h ws d m 0 (omega arith) desk) desk.head
+
+      long : length (new_head page root m) ≡ 32
+      long = ap length is ∙ omega (arith, length-drop 3 h, hl)
+
+      front : take 32 (over 0 (new_head page root m) m) ≡ first_page h ∷ page ∷ root ∷ drop 3 h
+      front = take_at (new_head page root m) (drop (0 + length (new_head page root m)) m) 32 long ∙ is
+
+      first_is : first_page (take 32 (over 0 (new_head page root m) m)) ≡ first_page h
+      first_is = ap first_page front
+
+      last_is : last_page (take 32 (over 0 (new_head page root m) m)) ≡ page
+      last_is = ap last_page front
+
+  -- what stands in front of the buffer is laid on fresh pages
+  pub lays_object : (p : Phase) (k : Control) (m h t o : List ℕ) (laid root : ℕ) (ss : Rows) → length m ≡ bulk_cells → 1 ≤ length o → length o ≤ 41088 →
+      take (length o) m ≡ o → laid + pages_of (length o) ≤ first_page h + n → 64 * (laid + pages_of (length o)) < 18446744073709551616 →
+      ((x : List ℕ) → length x ≡ 64 * pages_of (length o) → take (length o) x ≡ o →
+      Well (control_resumes (laying p (laid + pages_of (length o)) root k) m) h (t ++ x) (laid + pages_of (length o)) ss) →
+      Well (laid_from p k m laid (length o) root) h t laid ss
+  lays_object p k m h t o laid root ss long some most front fits small_tape on =
+      lays (asked (laying p (capped (laid + pages_of (length o))) root k) m (Lay laid (pages_of (length o)))) h t laid ss (pages_of (length o)) refl (omega arith)
+      (omega arith) fits small_tape
+      (subst (λ (x : ℕ). Well (control_resumes (laying p x root k) m) h (t ++ take (64 * pages_of (length o)) m) (laid + pages_of (length o)) ss) (sym page_is)
+      (on (take (64 * pages_of (length o)) m) (length-take-le (64 * pages_of (length o)) m (omega (arith, long)))
+      (take-take (length o) (64 * pages_of (length o)) m (omega arith) ∙ front)))
+    where
+      page_is : capped (laid + pages_of (length o)) ≡ laid + pages_of (length o)
+      page_is = omega arith
+
+  -- the head under which a tree is published that was laid from a page on
+  abbrev pub head_with : List ℕ → ℕ → List ℕ → List ℕ
+  head_with h page o = first_page h ∷ (page + pages_of (length o)) ∷ (8 * page + 1) ∷ drop 3 h
+
+  -- the tree in work is laid and published
+  pub lays_tree : (k : Control) (ws d m h t : List ℕ) (laid : ℕ) (ss : Rows) → Desk h ws d m → length h ≡ 32 → first_page h ≤ laid →
+      laid + pages_of (length (squeezed ws)) ≤ first_page h + n → 64 * (laid + pages_of (length (squeezed ws))) < 18446744073709551616 →
+      ((x : List ℕ) → length x ≡ 64 * pages_of (length (squeezed ws)) → take (length (squeezed ws)) x ≡ squeezed ws →
+      Stop (head_with h laid (squeezed ws)) (published (head_with h laid (squeezed ws)) (t ++ x)) ss
+      × ((p : Phase) (page root : ℕ) (m₁ : List ℕ) → End (laying p page root k) m₁ (head_with h laid (squeezed ws)) (t ++ x) (laid + pages_of (length (squeezed ws))) ss 0)) →
+      Well (lay_tree k m laid) h t laid ss
+  lays_tree k ws d m h t laid ss desk hl from fits small_tape on =
+      subst (λ (x : Option ℕ). Well (tree_put k m laid x) h t laid ss) (sym (squeeze_answers ws m desk.row desk.long))
+      (subst (λ (x : List ℕ). Well (laid_from LayingTree k x laid (length o) (reference_at laid)) h t laid ss) (sym (squeezes_front ws m desk.row desk.long))
+      (subst (λ (r : ℕ). Well (laid_from LayingTree k m₁ laid (length o) r) h t laid ss) (sym root_is)
+      (lays_object LayingTree k m₁ h t o laid (8 * laid + 1) ss desk₁.long (omega (arith, sized)) (omega (arith, tree.most)) (take_at o (drop (0 + length o) m) (length o) refl) fits
+      small_tape
+      (λ x xl front.
+      goes_on k₁ m₁ h (t ++ x) (laid + pages_of (length o)) ss desk₁.long
+      (publishes_head k₁ ws d m₁ h (t ++ x) (laid + pages_of (length o)) (laid + pages_of (length o)) (8 * laid + 1) ss desk₁ hl (omega arith) (omega arith)
+      (on x xl front).0 (λ p m₂. (on x xl front).1 p (laid + pages_of (length o)) (8 * laid + 1) m₂))))))
+    where
+      o : List ℕ
+      o = squeezed ws
+
+      tree : TreeObject ws
+      tree = stored_objects ws
+
+      sized : length (squeezed ws) ≡ 3 + held ws + length (packed_all (entries_of ws))
+      sized = length_squeezed ws
+
+      m₁ : List ℕ
+      m₁ = over 0 (squeezed ws) m
+
+      desk₁ : Desk h ws d (over 0 (squeezed ws) m)
+      desk₁ = desk_front h ws d m (squeezed ws) (omega (arith, tree.most)) desk
+
+      k₁ : Control
+      k₁ = laying LayingTree (laid + pages_of (length (squeezed ws))) (8 * laid + 1) k
+
+      root_is : reference_at laid ≡ 8 * laid + 1
+      root_is = omega arith
