@@ -14,3 +14,4 @@ pub mod BackAgain
 pub mod ObjectLaws
 pub mod MarkLaws
 pub mod AnswerLaws
+pub mod RowParts

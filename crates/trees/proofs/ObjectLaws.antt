@@ -44,12 +44,12 @@ unfolding unpacked_all unpacked
 renamed_all g [] ys = refl
 renamed_all g (r ∷ rs) ys = ap (λ u. unpacked (g r) ys ∷ u) (renamed_all g rs (drop (stride ys) ys))
 
-references_all : (rs ys : List ℕ) → each reference_of (unpacked_all (length rs) rs ys) ≡ rs
+pub references_all : (rs ys : List ℕ) → each reference_of (unpacked_all (length rs) rs ys) ≡ rs
 unfolding unpacked_all unpacked
 references_all [] ys = refl
 references_all (r ∷ rs) ys = ap (λ u. r ∷ u) (references_all rs (drop (stride ys) ys))
 
-whole_all : (n : ℕ) (rs ys : List ℕ) → every whole (unpacked_all n rs ys) ≡ true
+pub whole_all : (n : ℕ) (rs ys : List ℕ) → every whole (unpacked_all n rs ys) ≡ true
 unfolding unpacked_all
 whole_all zero rs ys = refl
 whole_all (suc n) rs ys =
