@@ -10,3 +10,4 @@ pub mod Nothing
 pub mod Started
 pub mod DeskLaws
 pub mod Sheets
+pub mod ShelfLaws
