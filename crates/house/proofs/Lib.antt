@@ -11,3 +11,4 @@ pub mod Started
 pub mod DeskLaws
 pub mod Sheets
 pub mod ShelfLaws
+pub mod NewShelf
