@@ -1,7 +1,7 @@
 -- How the house that keeps sheets in work goes on its tape, phase by phase, whatever is asked of stops and of the end. Assumes nothing.
-use Rattle.std.proofs.Common.{◌≡◌, ℕ, ◌+◌, ◌-◌, ◌*◌, ◌/◌, ◌<◌, ◌≤◌, min, max, Bool, true, false, ◌&&◌, eqb, ltb, leb, ◌⊎◌, List, [], ◌∷◌, ◌++◌, length, get_or, take, drop, Some, None, Option, sym, refl, ap, ◌∙◌, subst, ap₂, inl, inr, arith, length-append, length-drop, length-take}
-use Rattle.std.proofs.lemmas.List.{take_at, take_all, length-take-le, take-append-le, take-take, take-append-drop, drop-append-le, append_assoc}
-use Rattle.std.proofs.lemmas.Bool.{le-ltb, lt-ltb, eq-eqb, ne_eqb, eqb-true, ltb-true, le-leb, leb-true, and_parts}
+use Rattle.std.proofs.Common.{◌≡◌, ℕ, ◌+◌, ◌-◌, ◌*◌, ◌/◌, ◌<◌, ◌≤◌, min, max, Bool, true, false, ◌&&◌, eqb, ltb, leb, ◌⊎◌, List, [], ◌∷◌, ◌++◌, length, get_or, take, drop, Some, None, Option, sym, refl, ap, ◌∙◌, subst, subst₂, ap₂, inl, inr, arith, length-append, length-drop, length-take}
+use Rattle.std.proofs.lemmas.List.{take_at, take_all, length-take-le, take-append-le, take-take, take-append-drop, drop-append-le, drop-drop, get_or-drop, append_assoc}
+use Rattle.std.proofs.lemmas.Bool.{le-ltb, lt-ltb, eq-eqb, ne_eqb, eqb-true, ltb-true, le-leb, leb-true, and_parts, and_from}
 use lib.Seq.{take-append-add}
 use Rattle.pages.specs.Lists.{pick, each, has, zeros, added_up}
 use Rattle.pages.specs.Object.{size_in, references_in, references_of, object_at}
@@ -14,16 +14,19 @@ use Rattle.pages.specs.Tape.{first_page, last_page, published, Window, Does, rec
 use Rattle.pages.specs.declared.machine.Request.TheVariants.{Recall, Object, Lay, Publish, Show, Done, Refuse}
 use Rattle.pages.proofs.ListLaws.{pick_true, pick_false, pick_both}
 use Rattle.pages.proofs.WordLaws.{length_over, length_words, length_bytes_of, bytes_of_append}
-use Rattle.objects.specs.Plan.{head_at, plan_end}
+use Rattle.objects.specs.Plan.{head_at, plan_end, rest_at}
 use Rattle.objects.specs.Heap.{Heap, Lives, Placed, units, units_at, heading_at}
-use Rattle.objects.specs.Marking.{key_words}
-use Rattle.objects.specs.Layouts.{words_for, packed_bytes, file_object, file_read}
+use Rattle.objects.specs.Marking.{key_words, walk, begun, sought, went_on, walked, Marked, Marks}
+use Rattle.objects.specs.declared.mark.Walk.{Walk}
+use Rattle.objects.proofs.MarkLaws.{marks}
+use Rattle.objects.proofs.PartLaws.{part_before, part_inside}
+use Rattle.objects.specs.Layouts.{words_for, words_at, packed_bytes, bytes_stand, file_object, file_read}
 use Rattle.objects.proofs.LayoutLaws.{reads_back, bytes_back}
 use Rattle.objects.specs.Sweeping.{roots_of, swung, sweep_begun, sweep_went_on, Swept, Sweeps}
 use Rattle.objects.specs.declared.sweep.Sweep.{Sweep}
 use Rattle.objects.proofs.SweepLaws.{sweeps}
 use Rattle.trees.specs.Tree.{Tree}
-use Rattle.trees.specs.Row.{room, held, entries_of}
+use Rattle.trees.specs.Row.{room, held, entries_of, references, put_key}
 use Rattle.trees.specs.RowOf.{RowOf}
 use Rattle.trees.specs.Packed.{spread_into, squeezed, squeeze_into, squeeze_answer, packed_all}
 use Rattle.trees.specs.StoredPromises.{TreeObject}
@@ -33,12 +36,12 @@ use Rattle.trees.specs.RowPromises.{EmptyRight}
 use Rattle.trees.proofs.RowOfLaws.{empty_right}
 use Rattle.history.specs.Book.{Sum}
 use Rattle.commands.specs.Command.{a_text}
-use Rattle.house.specs.Control.{row_at, row_words, path_at, desk_end, row_of, with_row, emptied, head_word, at_phase, controlling, control_resumes, resumed, recalled, started, lays as lays_any, tight, sweeping, again, load, loaded, publish, new_head, pages_of, laid_from, laying, reference_at, squeezed_in, tree_put, lay_tree, opened, file_came, sum_key}
+use Rattle.house.specs.Control.{row_at, row_words, path_at, desk_end, row_of, with_row, emptied, head_word, at_phase, controlling, control_resumes, resumed, recalled, started, lays as lays_any, tight, sweeping, again, load, loaded, publish, new_head, pages_of, laid_from, laying, reference_at, squeezed_in, tree_put, lay_tree, named, file_in, lay_file, entry_weight, survey, survey_roots, surveyed, surveying, window_of, bytes_at as bytes_place, opened, file_came, sum_key}
 use Rattle.house.specs.Shelf.{bytes_at, FileAt, WorkAt, TreeAt, work_root}
 use Rattle.house.specs.declared.control.Control.{Control}
 use Rattle.house.specs.declared.control.Phase.{Phase}
-use Rattle.house.specs.declared.control.Phase.TheVariants.{Recalling, Loading, LayingTree, Publishing, Opening, Showing}
-use Rattle.house.proofs.DeskLaws.{part_alike, rest_alike, Desk, desk_front, desk_head, desk_row, desk_row_front, row_long, head_word_is}
+use Rattle.house.specs.declared.control.Phase.TheVariants.{Recalling, Loading, LayingFile, LayingTree, Publishing, Opening, Showing}
+use Rattle.house.proofs.DeskLaws.{part_alike, rest_alike, Desk, desk_front, desk_head, desk_row, desk_row_front, desk_kept, row_long, head_word_is, path_key_is}
 
 -- an object that stands in its place is as long as it says
 pub object_long : (t : List ℕ) (lo hi r : ℕ) → 8 * hi ≤ length t → Placed t lo hi r → length (object_at t r) ≡ size_in (heading_at t r)
@@ -49,6 +52,26 @@ object_long t lo hi r fits q =
 -- a text's length and bytes
 pub text_parts : (b : List ℕ) → a_text b ≡ true → (length b < 65536) × (all_bytes b ≡ true)
 text_parts b e = (ltb-true (length b) 65536 (and_parts (ltb (length b) 65536) (all_bytes b) e).0, (and_parts (ltb (length b) 65536) (all_bytes b) e).1)
+
+-- bytes of a text have room behind the buffer
+stands_there : (bytes : ℕ) (m : List ℕ) → bytes < 65536 → length m ≡ bulk_cells → bytes_stand 65535 bytes bytes_place m ≡ true
+stands_there bytes m short long =
+    and_from (leb plan_end (length m)) (leb bytes 65535 && (leb rest_at bytes_place && leb (bytes_place + words_for bytes) (length m)))
+    (le-leb plan_end (length m) (omega arith))
+    (and_from (leb bytes 65535) (leb rest_at bytes_place && leb (bytes_place + words_for bytes) (length m)) (le-leb bytes 65535 (omega arith))
+    (le-leb (bytes_place + words_for bytes) (length m) (omega arith)))
+
+seven_zeros : take 7 (zeros 29) ≡ zeros 7
+unfolding zeros
+seven_zeros = refl
+
+-- a file, as it is laid
+abbrev pub file_of : Sum → List ℕ → List ℕ
+file_of sum b = file_object (key_words (sum_key (sum b))) (length b) (packed_bytes b)
+
+-- what an entry weighs at the path that was said
+abbrev pub weight_said : List ℕ → ℕ
+weight_said d = capped (64 + get_or d 8 0)
 
 -- a row of the house's own length has room for 4,096 files
 pub row_two : (ws : List ℕ) → length ws ≡ row_words → 2 ≤ length ws
@@ -393,3 +416,123 @@ module _ (sum : Sum) (n : ℕ) (Stop : List ℕ → List ℕ → Rows → Type 0
 
       root_is : reference_at laid ≡ 8 * laid + 1
       root_is = omega arith
+
+  -- the file is laid, and named in the row
+  module _ (put_long : (key ws : List ℕ) (size r : ℕ) → length key ≡ 9 → length (put_key key size r ws) ≡ length ws) where
+    -- the file's reference in the row
+    names_file : (h ws d m : List ℕ) (r : ℕ) → length (take 9 d) ≡ 9 → Desk h ws d m →
+        (named r m ≡ with_row (put_key (take 9 d) (weight_said d) r ws) m) × Desk h (put_key (take 9 d) (weight_said d) r ws) d (named r m)
+    names_file h ws d m r nine desk = (is, subst (Desk h ws₁ d) (sym is) (desk_row h ws ws₁ d m (put_long (take 9 d) ws (weight_said d) r nine ∙ row_long h ws d m desk) desk))
+      where
+        ws₁ : List ℕ
+        ws₁ = put_key (take 9 d) (weight_said d) r ws
+
+        size : entry_weight m ≡ weight_said d
+        size = ap (λ x. capped (64 + x)) (sym (get_or-drop path_at m 8 0) ∙ ap (λ x. get_or x 8 0) desk.said)
+
+        is : named r m ≡ with_row (put_key (take 9 d) (weight_said d) r ws) m
+        is =
+            ap (λ x. with_row (put_key x (entry_weight m) r (row_of m)) m) (path_key_is h ws d m desk)
+            ∙ ap (λ x. with_row (put_key (take 9 d) x r (row_of m)) m) size ∙ ap (λ x. with_row (put_key (take 9 d) (weight_said d) r x) m) desk.row
+
+    pub lays_file : (k : Control) (ws d m h t b : List ℕ) (laid : ℕ) (ss : Rows) → Desk h ws d m → length (take 9 d) ≡ 9 → k.bytes ≡ length b → k.sum ≡ sum_key (sum b) →
+        length b < 65536 → take (words_for (length b)) (drop 9 d) ≡ packed_bytes b →
+        laid + pages_of (length (file_of sum b)) ≤ first_page h + n → 64 * (laid + pages_of (length (file_of sum b))) < 18446744073709551616 →
+        ((x m₁ : List ℕ) → length x ≡ 64 * pages_of (length (file_of sum b)) → take (length (file_of sum b)) x ≡ file_of sum b →
+        Desk h (put_key (take 9 d) (weight_said d) (8 * laid + 1) ws) d m₁ →
+        Well (lay_tree (laying LayingFile (laid + pages_of (length (file_of sum b))) k.root k) m₁ (laid + pages_of (length (file_of sum b)))) h (t ++ x)
+        (laid + pages_of (length (file_of sum b))) ss) →
+        Well (lay_file k m laid) h t laid ss
+    lays_file k ws d m h t b laid ss desk nine bytes_are sum_is short packed fits small_tape on =
+        subst (λ (x : Asked Control). Well x h t laid ss) (sym (pick_true (bytes_stand 65535 k.bytes bytes_place m) _ _ stands))
+        (subst (λ (x : List ℕ). Well (laid_from LayingFile k (named (reference_at laid) (over 0 x m)) laid (length x) k.root) h t laid ss) (sym file_is)
+        (subst (λ (r : ℕ). Well (laid_from LayingFile k (named r (over 0 o m)) laid (length o) k.root) h t laid ss) (sym root_is)
+        (lays_object LayingFile k m₂ h t o laid k.root ss desk₂.long (omega (arith, o_long)) (omega (arith, o_long, short)) front fits small_tape
+        (λ x xl xf. goes_on (laying LayingFile (laid + pages_of (length o)) k.root k) m₂ h (t ++ x) (laid + pages_of (length o)) ss desk₂.long (on x m₂ xl xf desk₂)))))
+      where
+        o : List ℕ
+        o = file_of sum b
+
+        packed_long : length (packed_bytes b) ≡ words_for (length b)
+        packed_long = length_words (words_for (length b)) (b ++ zeros 7)
+
+        o_long : length (file_of sum b) ≡ 6 + words_for (length b)
+        o_long = omega (arith, packed_long)
+
+        here : 229611 + words_for (length b) ≤ length m
+        here = omega (arith, desk.long, short)
+
+        stands : bytes_stand 65535 k.bytes bytes_place m ≡ true
+        stands = ap (λ i. bytes_stand 65535 i bytes_place m) bytes_are ∙ stands_there (length b) m short desk.long
+
+        place_is : drop bytes_place m ≡ drop 9 d
+        place_is = sym (drop-drop 9 path_at m) ∙ ap (drop 9) desk.said
+
+        file_is : file_in k m ≡ file_of sum b
+        file_is =
+            ap (λ x. file_object (key_words x) k.bytes (words_at k.bytes bytes_place m)) sum_is
+            ∙ ap (λ i. file_object (key_words (sum_key (sum b))) i (words_at i bytes_place m)) bytes_are
+            ∙ ap (λ x. file_object (key_words (sum_key (sum b))) (length b) (take (words_for (length b)) x)) place_is
+            ∙ ap (file_object (key_words (sum_key (sum b))) (length b)) packed
+
+        root_is : reference_at laid ≡ 8 * laid + 1
+        root_is = omega arith
+
+        m₁ : List ℕ
+        m₁ = over 0 (file_of sum b) m
+
+        desk₁ : Desk h ws d (over 0 (file_of sum b) m)
+        desk₁ = desk_front h ws d m (file_of sum b) (omega (arith, o_long, short)) desk
+
+        m₂ : List ℕ
+        m₂ = named (8 * laid + 1) (over 0 (file_of sum b) m)
+
+        put : (named (8 * laid + 1) m₁ ≡ with_row (put_key (take 9 d) (weight_said d) (8 * laid + 1) ws) m₁) × Desk h (put_key (take 9 d) (weight_said d) (8 * laid + 1) ws) d (named (8 * laid + 1) m₁)
+        put = names_file h ws d m₁ (8 * laid + 1) nine desk₁
+
+        desk₂ : Desk h (put_key (take 9 d) (weight_said d) (8 * laid + 1) ws) d m₂
+        desk₂ = put.1
+
+        front : take (length o) m₂ ≡ o
+        front =
+            ap (take (length o)) put.0
+            ∙ part_before 0 (length o) row_at (put_key (take 9 d) (weight_said d) (8 * laid + 1) ws ++ drop (row_at + length (put_key (take 9 d) (weight_said d) (8 * laid + 1) ws)) m₁) m₁ (omega (arith, o_long, short)) (omega (arith, desk₁.long))
+            ∙ take_at o (drop (0 + length o) m) (length o) refl
+
+  -- what will be live is surveyed
+  pub surveys : (k : Control) (ws d m h t : List ℕ) (ss : Rows) → Desk h ws d m → drop 3 h ≡ zeros 29 → length t ≡ 64 * last_page h →
+      64 * last_page h < 18446744073709551616 → first_page h ≤ last_page h → last_page h - first_page h ≤ 1048576 →
+      Heap t (8 * first_page h) (8 * last_page h) (zeros 7 ++ references ws) →
+      ((w₁ : Walk) (m₁ : List ℕ) → Marked t (zeros 7 ++ references ws) (8 * first_page h) 1 (key_words k.sum) m w₁ m₁ → Desk h ws d m₁ →
+      Well (surveyed k w₁ m₁) h t (last_page h) ss) →
+      Well (survey k m) h t (last_page h) ss
+  unfolding Marks
+  surveys k ws d m h t ss desk others tl small_tape rises near heap on =
+      subst (λ (x : List ℕ). Well (walked (surveying k) (surveyed k) (sought (window_of k m) (begun (capped (8 * head_word m 0)) x m))) h t (last_page h) ss) (sym roots_are)
+      (subst₂ (λ (f b : ℕ). Well (walked (surveying k) (surveyed k) (sought (walk f b 0 1 k.sum 0) (begun f roots m))) h t (last_page h) ss) (sym first_is) (sym below_is)
+      (marks Stop End (controlling sum) n (surveying k) (surveyed k) walks h t (last_page h) ss roots m (8 * last_page h - 8 * first_page h) 1 k.sum tl small_tape (omega arith)
+      (omega (arith, near)) desk.long (heap_to heap) (inr refl)
+      (λ w₁ m₁ marked. on w₁ m₁ marked (desk_kept h ws d m m₁ marked.keeps desk))))
+    where
+      roots : List ℕ
+      roots = zeros 7 ++ references ws
+
+      head_is : (i : ℕ) → i < 32 → head_word m i ≡ get_or h i 0
+      head_is i lt = head_word_is h ws d m i lt desk
+
+      first_is : capped (8 * head_word m 0) ≡ 8 * first_page h
+      first_is = omega (arith, head_is 0 (omega arith))
+
+      below_is : capped (8 * (head_word m 1 - head_word m 0)) ≡ 8 * last_page h - 8 * first_page h
+      below_is = omega (arith, head_is 0 (omega arith), head_is 1 (omega arith), near)
+
+      heap_to : Heap t (8 * first_page h) (8 * last_page h) roots → Heap t (8 * first_page h) (8 * first_page h + (8 * last_page h - 8 * first_page h)) roots
+      heap_to g = let e : 8 * last_page h ≡ 8 * first_page h + (8 * last_page h - 8 * first_page h) = omega arith in subst (λ x. Heap t (8 * first_page h) x roots) e g
+
+      roots_are : survey_roots m ≡ zeros 7 ++ references ws
+      roots_are =
+          ap₂ (λ x y. x ++ references y)
+          (sym (part_inside head_at 32 7 3 m (omega arith)) ∙ ap (λ x. take 7 (drop 3 x)) desk.head ∙ ap (take 7) others ∙ seven_zeros) desk.row
+
+      walks : (w : Walk) (x : List ℕ) → length x ≡ bulk_cells → control_resumes (surveying k w) x ≡ walked (surveying k) (surveyed k) (went_on w x)
+      walks w x l = pick_false (ltb (length x) desk_end) _ _ (le-ltb (length x) desk_end (omega arith))
