@@ -1,5 +1,5 @@
 -- How the house that keeps sheets in work goes on its tape, phase by phase, whatever is asked of stops and of the end. Assumes nothing.
-use Rattle.std.proofs.Common.{◌≡◌, ℕ, ◌+◌, ◌-◌, ◌*◌, ◌/◌, ◌<◌, ◌≤◌, min, max, Bool, true, false, ◌&&◌, eqb, ltb, leb, ◌⊎◌, List, [], ◌∷◌, ◌++◌, length, get_or, take, drop, Some, None, Option, sym, refl, ap, ◌∙◌, subst, subst₂, ap₂, inl, inr, arith, length-append, length-drop, length-take}
+use Rattle.std.proofs.Common.{◌≡◌, ℕ, zero, suc, ◌+◌, ◌-◌, ◌*◌, ◌/◌, ◌<◌, ◌≤◌, min, max, Bool, true, false, ◌&&◌, eqb, ltb, leb, ◌⊎◌, List, [], ◌∷◌, ◌++◌, length, get_or, take, drop, Some, None, Option, sym, refl, ap, ◌∙◌, subst, subst₂, ap₂, inl, inr, arith, append-nil, length-append, length-drop, length-take}
 use Rattle.std.proofs.lemmas.List.{take_at, take_all, length-take-le, take-append-le, take-take, take-append-drop, drop-append-le, drop-drop, get_or-drop, append_assoc}
 use Rattle.std.proofs.lemmas.Bool.{le-ltb, lt-ltb, eq-eqb, ne_eqb, eqb-true, ltb-true, le-leb, leb-true, and_parts, and_from}
 use lib.Seq.{take-append-add}
@@ -13,15 +13,16 @@ use Rattle.pages.specs.Machine.{Asked, asked, capped, buffer_words, wanted}
 use Rattle.pages.specs.Tape.{first_page, last_page, published, Window, Does, recalls, looks, opens, lays, publishes, rows, finishes}
 use Rattle.pages.specs.declared.machine.Request.TheVariants.{Recall, Object, Lay, Publish, Show, Done, Refuse}
 use Rattle.pages.proofs.ListLaws.{pick_true, pick_false, pick_both}
-use Rattle.pages.proofs.WordLaws.{length_over, length_words, length_bytes_of, bytes_of_append}
+use Rattle.pages.proofs.WordLaws.{length_over, length_words, length_bytes_of, bytes_of_append, all_bytes_of}
+use Rattle.pages.proofs.BytesLaws.{all_bytes_take}
 use Rattle.objects.specs.Plan.{head_at, plan_end, rest_at}
 use Rattle.objects.specs.Heap.{Heap, Lives, Placed, units, units_at, heading_at}
 use Rattle.objects.specs.Marking.{key_words, walk, begun, sought, went_on, walked, Marked, Marks}
 use Rattle.objects.specs.declared.mark.Walk.{Walk}
 use Rattle.objects.proofs.MarkLaws.{marks}
-use Rattle.objects.proofs.PartLaws.{part_before, part_inside}
-use Rattle.objects.specs.Layouts.{words_for, words_at, packed_bytes, bytes_stand, file_object, file_read}
-use Rattle.objects.proofs.LayoutLaws.{reads_back, bytes_back}
+use Rattle.objects.proofs.PartLaws.{part_before, part_inside, parts_stay}
+use Rattle.objects.specs.Layouts.{words_for, words_at, packed_bytes, bytes_stand, file_object, file_read, bytes_put}
+use Rattle.objects.proofs.LayoutLaws.{reads_back, bytes_back, put_all}
 use Rattle.objects.specs.Sweeping.{roots_of, swung, sweep_begun, sweep_went_on, Swept, Sweeps}
 use Rattle.objects.specs.declared.sweep.Sweep.{Sweep}
 use Rattle.objects.proofs.SweepLaws.{sweeps}
@@ -34,13 +35,19 @@ use Rattle.trees.proofs.ObjectLaws.{stored_objects}
 use Rattle.trees.proofs.StoredLaws.{length_squeezed}
 use Rattle.trees.specs.RowPromises.{EmptyRight}
 use Rattle.trees.proofs.RowOfLaws.{empty_right}
+use Rattle.trees.specs.Row.{path_of}
+use Rattle.trees.specs.Differ.{difference_from, answers, shown}
+use Rattle.trees.specs.declared.differences.Cursor.{Cursor}
+use Rattle.trees.specs.declared.differences.Difference.{Difference}
+use Rattle.trees.specs.declared.differences.Place.{Place}
+use Rattle.trees.specs.declared.differences.Place.TheVariants.{New, Changed, Gone}
 use Rattle.history.specs.Book.{Sum}
 use Rattle.commands.specs.Command.{a_text}
-use Rattle.house.specs.Control.{row_at, row_words, path_at, desk_end, row_of, with_row, emptied, head_word, at_phase, controlling, control_resumes, resumed, recalled, started, lays as lays_any, tight, sweeping, again, load, loaded, publish, new_head, pages_of, laid_from, laying, reference_at, squeezed_in, tree_put, lay_tree, named, file_in, lay_file, entry_weight, survey, survey_roots, surveyed, surveying, window_of, bytes_at as bytes_place, opened, file_came, sum_key}
+use Rattle.house.specs.Control.{row_at, row_words, path_at, desk_end, row_of, with_row, emptied, head_word, at_phase, controlling, control_resumes, resumed, recalled, started, lays as lays_any, tight, sweeping, again, load, loaded, publish, new_head, pages_of, laid_from, laying, reference_at, squeezed_in, tree_put, lay_tree, named, file_in, lay_file, entry_weight, survey, survey_roots, surveyed, surveying, window_of, bytes_at as bytes_place, old_row_at, old_row_of, compare, compared, comparing, opened, file_came, sum_key}
 use Rattle.house.specs.Shelf.{bytes_at, FileAt, WorkAt, TreeAt, work_root}
 use Rattle.house.specs.declared.control.Control.{Control}
 use Rattle.house.specs.declared.control.Phase.{Phase}
-use Rattle.house.specs.declared.control.Phase.TheVariants.{Recalling, Loading, LayingFile, LayingTree, Publishing, Opening, Showing}
+use Rattle.house.specs.declared.control.Phase.TheVariants.{Recalling, Loading, LayingFile, LayingTree, Publishing, Opening, Showing, Comparing}
 use Rattle.house.proofs.DeskLaws.{part_alike, rest_alike, Desk, desk_front, desk_head, desk_row, desk_row_front, desk_kept, row_long, head_word_is, path_key_is}
 
 -- an object that stands in its place is as long as it says
@@ -64,6 +71,36 @@ stands_there bytes m short long =
 seven_zeros : take 7 (zeros 29) ≡ zeros 7
 unfolding zeros
 seven_zeros = refl
+
+-- what is shown of a difference
+path_fits : (k : List ℕ) → (length (path_of k) ≤ 64) × (all_bytes (path_of k) ≡ true)
+unfolding path_of
+path_fits k = (
+  omega (arith, length-take (get_or k 8 0) (bytes_of (take 8 k)), length_bytes_of (take 8 k), length-take 8 k),
+  all_bytes_take (get_or k 8 0) (bytes_of (take 8 k)) (all_bytes_of (take 8 k)),
+)
+
+shown_fits : (xs ys : List ℕ) (v : Place) → (length (shown xs ys v) ≤ 65) × (all_bytes (shown xs ys v) ≡ true)
+unfolding all_bytes
+shown_fits xs ys (New j) = (omega (arith, (path_fits (take 9 (drop (10 * j + 2) ys))).0), (path_fits (take 9 (drop (10 * j + 2) ys))).1)
+shown_fits xs ys (Changed j) = (omega (arith, (path_fits (take 9 (drop (10 * j + 2) ys))).0), (path_fits (take 9 (drop (10 * j + 2) ys))).1)
+shown_fits xs ys (Gone i) = (omega (arith, (path_fits (take 9 (drop (10 * i + 2) xs))).0), (path_fits (take 9 (drop (10 * i + 2) xs))).1)
+
+-- the answers, by the first one
+after : ℕ → List ℕ → List ℕ → Option Difference → List Place
+after i xs ys o = elim o [ None ↦ [] | Some v ↦ v.place ∷ answers i xs ys v.next ]
+
+answers_by : (i : ℕ) (xs ys : List ℕ) (c : Cursor) (o : Option Difference) → difference_from xs ys c ≡ o → answers (suc i) xs ys c ≡ after i xs ys o
+unfolding answers after
+answers_by i xs ys c o e = ap (after i xs ys) e
+
+none_left : (i : ℕ) (xs ys : List ℕ) (c : Cursor) → difference_from xs ys c ≡ None → answers (suc i) xs ys c ≡ []
+unfolding after
+none_left i xs ys c e = answers_by i xs ys c None e
+
+one_first : (i : ℕ) (xs ys : List ℕ) (c : Cursor) (v : Difference) → difference_from xs ys c ≡ Some v → answers (suc i) xs ys c ≡ v.place ∷ answers i xs ys v.next
+unfolding after
+one_first i xs ys c v e = answers_by i xs ys c (Some v) e
 
 -- a file, as it is laid
 abbrev pub file_of : Sum → List ℕ → List ℕ
@@ -536,3 +573,72 @@ module _ (sum : Sum) (n : ℕ) (Stop : List ℕ → List ℕ → Rows → Type 0
 
       walks : (w : Walk) (x : List ℕ) → length x ≡ bulk_cells → control_resumes (surveying k w) x ≡ walked (surveying k) (surveyed k) (went_on w x)
       walks w x l = pick_false (ltb (length x) desk_end) _ _ (le-ltb (length x) desk_end (omega arith))
+
+  -- differences are shown one after another, until there are no more
+  module _ (k : Control) (ws os d h t : List ℕ) (laid : ℕ) (all : Rows) (stop : (a b : Rows) → a ++ b ≡ all → Stop h (published h t) a)
+      (end : (p : Phase) (c : Cursor) (m₁ : List ℕ) → End (at_phase p (comparing c k)) m₁ h t laid all 0) where
+    next : (i : ℕ) (p : Phase) (c : Cursor) (m : List ℕ) (ss : Rows) (o : Option Difference) → difference_from os ws c ≡ o →
+        length (answers (suc i) os ws c) ≤ i → ss ++ each (shown os ws) (answers (suc i) os ws c) ≡ all → Desk h ws d m → old_row_of m ≡ os →
+        ((c₁ : Cursor) (i₁ : ℕ) (m₁ : List ℕ) (ss₁ : Rows) → i ≡ suc i₁ → length (answers (suc i₁) os ws c₁) ≤ i₁ → ss₁ ++ each (shown os ws) (answers (suc i₁) os ws c₁) ≡ all →
+        Desk h ws d m₁ → old_row_of m₁ ≡ os → Well (compare (at_phase Comparing (comparing c₁ k)) m₁) h t laid ss₁) →
+        Well (compared (at_phase p (comparing c k)) m o) h t laid ss
+    next i p c m ss None e few so_far desk old more =
+        subst (λ (x : Rows). Well (asked (at_phase p (comparing c k)) m Done) h t laid x) (sym all_is)
+        (finishes (asked (at_phase p (comparing c k)) m Done) h t laid all 0 refl (omega arith) (end p c m))
+      where
+        all_is : ss ≡ all
+        all_is = sym (append-nil ss) ∙ ap (λ x. ss ++ each (shown os ws) x) (sym (none_left i os ws c e)) ∙ so_far
+    next i p c m ss (Some v) e few so_far desk old more =
+        subst₂ (λ x y. Well (asked (at_phase Comparing (comparing v.next k)) (bytes_put 0 (shown x y v.place) m) (Show (length (shown x y v.place)))) h t laid ss) (sym old) (sym desk.row)
+        (subst (λ (x : List ℕ). Well (asked (at_phase Comparing (comparing v.next k)) x (Show (length sh))) h t laid ss) (put_all sh m 0 (omega (arith, fit.0, desk.long)))
+        (rows (asked (at_phase Comparing (comparing v.next k)) m₁ (Show (length sh))) h t laid ss (length sh) refl (omega (arith, fit.0))
+        (subst (λ (x : List ℕ). Stop h (published h t) (ss ++ x ∷ [])) (sym row) (stop (ss ++ sh ∷ []) (each (shown os ws) (answers i os ws v.next)) on_all))
+        (goes_on (at_phase Comparing (comparing v.next k)) m₁ h t laid _ desk₁.long
+        (more v.next (i - 1) m₁ _ one (subst (λ j. length (answers j os ws v.next) ≤ i - 1) one (omega (arith, ap length first, few)))
+        (ap (λ x. (ss ++ x ∷ []) ++ each (shown os ws) (answers (suc (i - 1)) os ws v.next)) row ∙ ap (λ j. (ss ++ sh ∷ []) ++ each (shown os ws) (answers j os ws v.next)) (sym one) ∙ on_all) desk₁
+        (parts_stay.beside 0 (packed_bytes sh) m old_row_at row_words (omega (arith, packed_long, fit.0, desk.long)) (inr (omega (arith, packed_long, fit.0))) ∙ old)))))
+      where
+        sh : List ℕ
+        sh = shown os ws v.place
+
+        fit : (length (shown os ws v.place) ≤ 65) × (all_bytes (shown os ws v.place) ≡ true)
+        fit = shown_fits os ws v.place
+
+        packed_long : length (packed_bytes (shown os ws v.place)) ≡ words_for (length (shown os ws v.place))
+        packed_long = length_words (words_for (length (shown os ws v.place))) (shown os ws v.place ++ zeros 7)
+
+        m₁ : List ℕ
+        m₁ = over 0 (packed_bytes (shown os ws v.place)) m
+
+        desk₁ : Desk h ws d (over 0 (packed_bytes (shown os ws v.place)) m)
+        desk₁ = desk_front h ws d m (packed_bytes (shown os ws v.place)) (omega (arith, packed_long, fit.0)) desk
+
+        first : answers (suc i) os ws c ≡ v.place ∷ answers i os ws v.next
+        first = one_first i os ws c v e
+
+        one : i ≡ suc (i - 1)
+        one = omega (arith, ap length first, few)
+
+        row : take (length (shown os ws v.place)) (bytes_of (take 16384 m₁)) ≡ shown os ws v.place
+        row = shown_bytes (shown os ws v.place) m fit.1 (omega (arith, fit.0))
+
+        on_all : (ss ++ sh ∷ []) ++ each (shown os ws) (answers i os ws v.next) ≡ all
+        on_all = append_assoc ss (sh ∷ []) (each (shown os ws) (answers i os ws v.next)) ∙ ap (λ x. ss ++ each (shown os ws) x) (sym first) ∙ so_far
+
+    begin : (i : ℕ) (p : Phase) (c : Cursor) (m : List ℕ) (ss : Rows) → length (answers (suc i) os ws c) ≤ i → ss ++ each (shown os ws) (answers (suc i) os ws c) ≡ all →
+        Desk h ws d m → old_row_of m ≡ os →
+        ((c₁ : Cursor) (i₁ : ℕ) (m₁ : List ℕ) (ss₁ : Rows) → i ≡ suc i₁ → length (answers (suc i₁) os ws c₁) ≤ i₁ → ss₁ ++ each (shown os ws) (answers (suc i₁) os ws c₁) ≡ all →
+        Desk h ws d m₁ → old_row_of m₁ ≡ os → Well (compare (at_phase Comparing (comparing c₁ k)) m₁) h t laid ss₁) →
+        Well (compare (at_phase p (comparing c k)) m) h t laid ss
+    begin i p c m ss few so_far desk old more =
+        subst₂ (λ x y. Well (compared (at_phase p (comparing c k)) m (difference_from x y c)) h t laid ss) (sym old) (sym desk.row) (next i p c m ss (difference_from os ws c) refl few so_far desk old more)
+
+    pub compares : (i : ℕ) (p : Phase) (c : Cursor) (m : List ℕ) (ss : Rows) → length (answers (suc i) os ws c) ≤ i → ss ++ each (shown os ws) (answers (suc i) os ws c) ≡ all →
+        Desk h ws d m → old_row_of m ≡ os → Well (compare (at_phase p (comparing c k)) m) h t laid ss
+    compares zero p c m ss few so_far desk old = begin zero p c m ss few so_far desk old (λ c₁ i₁ m₁ ss₁ e. absurd (omega arith))
+    compares (suc i) p c m ss few so_far desk old =
+        begin (suc i) p c m ss few so_far desk old
+        (λ c₁ i₁ m₁ ss₁ e few₁ so_far₁ desk₁ old₁.
+        let same_i : i₁ ≡ i = omega arith in
+        compares i Comparing c₁ m₁ ss₁ (subst (λ j. length (answers (suc j) os ws c₁) ≤ j) same_i few₁)
+        (subst (λ j. ss₁ ++ each (shown os ws) (answers (suc j) os ws c₁) ≡ all) same_i so_far₁) desk₁ old₁)
