@@ -12,3 +12,4 @@ pub mod DeskLaws
 pub mod Sheets
 pub mod ShelfLaws
 pub mod NewShelf
+pub mod SurveyLaws
