@@ -15,3 +15,4 @@ pub mod ObjectLaws
 pub mod MarkLaws
 pub mod AnswerLaws
 pub mod RowParts
+pub mod PutAgain

@@ -133,7 +133,7 @@ only_one [] e = absurd (omega arith)
 only_one (b ∷ []) e = refl
 only_one (b ∷ c ∷ bs) e = absurd (omega arith)
 
-length_words_of : (es : Tree) → every whole es ≡ true → length (flat in_words es) ≡ 10 * length es
+pub length_words_of : (es : Tree) → every whole es ≡ true → length (flat in_words es) ≡ 10 * length es
 length_words_of [] h = refl
 length_words_of (f ∷ fs) h =
     let a = and_parts (whole f) (every whole fs) h in let b = and_parts (eqb (length f.path) 9) (eqb (length f.bytes) 1) a.0 in

@@ -55,13 +55,13 @@ spread_references xs into l f =
 
 -- WHAT IS PUT AND TAKEN OUT
 module _ (k ws : List ℕ) (r : ℕ) (nine : length k ≡ 9) (f : room_for k r ws ≡ true) where
-  put_fits : length (putting k r ws) ≤ room ws
+  pub put_fits : length (putting k r ws) ≤ room ws
   put_fits = leb-true (length (putting k r ws)) (room ws) f
 
-  put_long : 2 ≤ length ws
+  pub put_long : 2 ≤ length ws
   put_long = omega (arith, put_fits, put_some k (r ∷ []) (entries_of ws))
 
-  put_whole : every whole (putting k r ws) ≡ true
+  pub put_whole : every whole (putting k r ws) ≡ true
   unfolding put
   put_whole = put_every whole k (r ∷ []) (entries_of ws) (and_from (eqb (length k) 9) true (eq-eqb (length k) 9 nine) refl) (row_whole ws)
 
