@@ -1,6 +1,6 @@
 -- How the house that keeps sheets in work goes on its tape, phase by phase, whatever is asked of stops and of the end. Assumes nothing.
 use Rattle.std.proofs.Common.{◌≡◌, ℕ, zero, suc, ◌+◌, ◌-◌, ◌*◌, ◌/◌, ◌<◌, ◌≤◌, min, max, Bool, true, false, ◌&&◌, eqb, ltb, leb, ◌⊎◌, List, [], ◌∷◌, ◌++◌, length, get_or, take, drop, Some, None, Option, sym, refl, ap, ◌∙◌, subst, subst₂, ap₂, inl, inr, arith, append-nil, length-append, length-drop, length-take}
-use Rattle.std.proofs.lemmas.List.{take_at, take_all, length-take-le, take-append-le, take-take, take-append-drop, drop-append-le, drop-drop, get_or-drop, append_assoc}
+use Rattle.std.proofs.lemmas.List.{take_at, take_all, length-take-le, take-append-le, take-take, take-append-drop, drop-append-le, drop-drop, get_or-drop, get_or_append_left, append_assoc}
 use Rattle.std.proofs.lemmas.Bool.{le-ltb, lt-ltb, eq-eqb, ne_eqb, eqb-true, ltb-true, le-leb, leb-true, and_parts, and_from}
 use lib.Seq.{take-append-add}
 use Rattle.pages.specs.Lists.{pick, each, has, zeros, added_up}
@@ -26,13 +26,16 @@ use Rattle.objects.proofs.LayoutLaws.{reads_back, bytes_back, put_all}
 use Rattle.objects.specs.Sweeping.{roots_of, swung, sweep_begun, sweep_went_on, Swept, Sweeps}
 use Rattle.objects.specs.declared.sweep.Sweep.{Sweep}
 use Rattle.objects.proofs.SweepLaws.{sweeps}
+use Rattle.objects.proofs.PlanLaws.{part_of_append}
+use Rattle.objects.proofs.RoomLaws.{object_heading}
 use Rattle.trees.specs.Tree.{Tree}
-use Rattle.trees.specs.Row.{room, held, entries_of, references, put_key}
+use Rattle.trees.specs.Row.{room, held, cut, entries_of, reference_of, references, put_key}
 use Rattle.trees.specs.RowOf.{RowOf}
-use Rattle.trees.specs.Packed.{spread_into, squeezed, squeeze_into, squeeze_answer, packed_all}
+use Rattle.trees.specs.Packed.{files_in, spread_into, squeezed, squeeze_into, squeeze_answer, packed_all}
 use Rattle.trees.specs.StoredPromises.{TreeObject}
 use Rattle.trees.proofs.ObjectLaws.{stored_objects}
 use Rattle.trees.proofs.StoredLaws.{length_squeezed}
+use Rattle.trees.proofs.RowParts.{length_spread_into, spread_references, length_put_key}
 use Rattle.trees.specs.RowPromises.{EmptyRight}
 use Rattle.trees.proofs.RowOfLaws.{empty_right}
 use Rattle.trees.specs.Row.{path_of}
@@ -44,7 +47,7 @@ use Rattle.trees.specs.declared.differences.Place.TheVariants.{New, Changed, Gon
 use Rattle.history.specs.Book.{Sum}
 use Rattle.commands.specs.Command.{a_text}
 use Rattle.house.specs.Control.{row_at, row_words, path_at, desk_end, row_of, with_row, emptied, head_word, at_phase, controlling, control_resumes, resumed, recalled, started, lays as lays_any, tight, sweeping, again, load, loaded, publish, new_head, pages_of, laid_from, laying, reference_at, squeezed_in, tree_put, lay_tree, named, file_in, lay_file, entry_weight, survey, survey_roots, surveyed, surveying, window_of, bytes_at as bytes_place, old_row_at, old_row_of, compare, compared, comparing, opened, file_came, sum_key}
-use Rattle.house.specs.Shelf.{bytes_at, FileAt, WorkAt, TreeAt, work_root}
+use Rattle.house.specs.Shelf.{bytes_at, FileAt, WorkAt, TreeAt, work_root, files_named}
 use Rattle.house.specs.declared.control.Control.{Control}
 use Rattle.house.specs.declared.control.Phase.{Phase}
 use Rattle.house.specs.declared.control.Phase.TheVariants.{Recalling, Loading, LayingFile, LayingTree, Publishing, Opening, Showing, Comparing}
@@ -109,6 +112,17 @@ file_of sum b = file_object (key_words (sum_key (sum b))) (length b) (packed_byt
 -- what an entry weighs at the path that was said
 abbrev pub weight_said : List ℕ → ℕ
 weight_said d = capped (64 + get_or d 8 0)
+
+-- a row that says that it has no files names none
+empty_names : (rest : List ℕ) → references (0 ∷ 0 ∷ rest) ≡ []
+unfolding cut
+empty_names rest = let e : held (0 ∷ 0 ∷ rest) ≡ 0 = omega arith in ap (λ i. each reference_of (cut i rest)) e
+
+-- what an object names, whatever lies behind it
+first_names : (o z : List ℕ) → 2 + references_in (get_or o 0 0) ≤ length o → references_of (o ++ z) ≡ references_of o
+first_names o z whole =
+    ap (λ x. take (references_in x) (drop 2 (o ++ z))) (get_or_append_left o z 0 0 (omega (arith, whole)))
+    ∙ part_of_append (references_in (get_or o 0 0)) 2 o z whole
 
 -- a row of the house's own length has room for 4,096 files
 pub row_two : (ws : List ℕ) → length ws ≡ row_words → 2 ≤ length ws
@@ -232,65 +246,81 @@ module _ (sum : Sum) (n : ℕ) (Stop : List ℕ → List ℕ → Rows → Type 0
           }
 
   -- the tree in work is loaded
-  module _ (long : (xs ws : List ℕ) → length (spread_into xs ws) ≡ length ws) where
-    pub loads_tree : (k : Control) (ws d m h t : List ℕ) (laid : ℕ) (ss : Rows) (tree : Tree) → Desk h ws d m → length t ≡ 64 * laid →
-        64 * laid < 18446744073709551616 → WorkAt t (work_root h) tree →
-        (1 ≤ work_root h → Placed t (8 * first_page h) (8 * laid) (work_root h)) → length tree ≤ 4096 →
-        ((p : Phase) (ws₁ m₁ : List ℕ) → Desk h ws₁ d m₁ → RowOf (bytes_at t) ws₁ tree → Well (loaded (at_phase p k) m₁ k.task) h t laid ss) →
-        Well (load k m) h t laid ss
-    unfolding EmptyRight
-    loads_tree k ws d m h t laid ss tree desk tl small_tape (inl (none, empty)) placed few on =
-        subst (λ (x : Asked Control). Does (controlling sum) n Stop End x h t laid ss)
-        (sym (pick_true (eqb (head_word m 2) 0) _ _ (eq-eqb (head_word m 2) 0 (head_word_is h ws d m 2 (omega arith) desk ∙ none))))
-        (on k.phase (over 0 (0 ∷ 0 ∷ []) ws) (emptied row_at m) (desk_row_front h ws d m (0 ∷ 0 ∷ []) (omega arith) desk)
-        (subst (RowOf (bytes_at t) (over 0 (0 ∷ 0 ∷ []) ws)) (sym empty) (empty_right (bytes_at t) (over 0 (0 ∷ 0 ∷ []) ws) (omega arith) refl refl)))
-    loads_tree k ws d m h t laid ss tree desk tl small_tape (inr kept) placed few on =
-        subst (λ (x : Asked Control). Does (controlling sum) n Stop End x h t laid ss)
-        (sym (pick_false (eqb (head_word m 2) 0) _ _ (ne_eqb (head_word m 2) 0 (λ z. omega (arith, kept.one, word)))))
-        (subst (λ (x : ℕ). Does (controlling sum) n Stop End (asked (at_phase Loading k) m (Object (capped (8 * (x - 1))) buffer_words)) h t laid ss) (sym word)
-        (opens_object (at_phase Loading k) m h t laid r ss tl small_tape q
-        (goes_on (at_phase Loading k) m₁ h t laid ss desk₁.long
-        (on Loading (spread_into (take buffer_words m₁) (row_of m₁)) (with_row (spread_into (take buffer_words m₁) (row_of m₁)) m₁)
-        (desk_row h ws (spread_into (take buffer_words m₁) (row_of m₁)) d m₁ (long (take buffer_words m₁) (row_of m₁) ∙ ap length desk₁.row ∙ row_long h ws d m₁ desk₁) desk₁)
-        (subst (λ (x : List ℕ). RowOf (bytes_at t) (spread_into x (row_of m₁)) tree) (sym front) spread)))))
-      where
-        r : ℕ
-        r = work_root h
+  pub loads_tree : (k : Control) (ws d m h t : List ℕ) (laid : ℕ) (ss : Rows) (tree : Tree) → Desk h ws d m → length t ≡ 64 * laid →
+      64 * laid < 18446744073709551616 → WorkAt t (work_root h) tree →
+      (1 ≤ work_root h → Placed t (8 * first_page h) (8 * laid) (work_root h)) → length tree ≤ 4096 →
+      ((p : Phase) (ws₁ m₁ : List ℕ) → Desk h ws₁ d m₁ → RowOf (bytes_at t) ws₁ tree → references ws₁ ≡ files_named t (work_root h) → Well (loaded (at_phase p k) m₁ k.task) h t laid ss) →
+      Well (load k m) h t laid ss
+  unfolding EmptyRight
+  loads_tree k ws d m h t laid ss tree desk tl small_tape (inl (none, empty)) placed few on =
+      subst (λ (x : Asked Control). Does (controlling sum) n Stop End x h t laid ss)
+      (sym (pick_true (eqb (head_word m 2) 0) _ _ (eq-eqb (head_word m 2) 0 (head_word_is h ws d m 2 (omega arith) desk ∙ none))))
+      (on k.phase (over 0 (0 ∷ 0 ∷ []) ws) (emptied row_at m) (desk_row_front h ws d m (0 ∷ 0 ∷ []) (omega arith) desk)
+      (subst (RowOf (bytes_at t) (over 0 (0 ∷ 0 ∷ []) ws)) (sym empty) (empty_right (bytes_at t) (over 0 (0 ∷ 0 ∷ []) ws) (omega arith) refl refl))
+      (empty_names (drop (0 + 2) ws) ∙ sym (pick_true (eqb (work_root h) 0) [] (references_of (object_at t (work_root h))) (eq-eqb (work_root h) 0 none))))
+  loads_tree k ws d m h t laid ss tree desk tl small_tape (inr kept) placed few on =
+      subst (λ (x : Asked Control). Does (controlling sum) n Stop End x h t laid ss)
+      (sym (pick_false (eqb (head_word m 2) 0) _ _ (ne_eqb (head_word m 2) 0 (λ z. omega (arith, kept.one, word)))))
+      (subst (λ (x : ℕ). Does (controlling sum) n Stop End (asked (at_phase Loading k) m (Object (capped (8 * (x - 1))) buffer_words)) h t laid ss) (sym word)
+      (opens_object (at_phase Loading k) m h t laid r ss tl small_tape q
+      (goes_on (at_phase Loading k) m₁ h t laid ss desk₁.long
+      (on Loading (spread_into (take buffer_words m₁) (row_of m₁)) (with_row (spread_into (take buffer_words m₁) (row_of m₁)) m₁)
+      (desk_row h ws (spread_into (take buffer_words m₁) (row_of m₁)) d m₁ (length_spread_into (take buffer_words m₁) (row_of m₁) ∙ ap length desk₁.row ∙ row_long h ws d m₁ desk₁) desk₁)
+      (subst (λ (x : List ℕ). RowOf (bytes_at t) (spread_into x (row_of m₁)) tree) (sym front) spread) names))))
+    where
+      r : ℕ
+      r = work_root h
 
-        word : head_word m 2 ≡ r
-        word = head_word_is h ws d m 2 (omega arith) desk
+      word : head_word m 2 ≡ r
+      word = head_word_is h ws d m 2 (omega arith) desk
 
-        q : Placed t (8 * first_page h) (8 * laid) (work_root h)
-        q = placed kept.one
+      q : Placed t (8 * first_page h) (8 * laid) (work_root h)
+      q = placed kept.one
 
-        o : List ℕ
-        o = object_at t (work_root h)
+      o : List ℕ
+      o = object_at t (work_root h)
 
-        m₁ : List ℕ
-        m₁ = over 0 (object_at t (work_root h)) m
+      m₁ : List ℕ
+      m₁ = over 0 (object_at t (work_root h)) m
 
-        o_long : length (object_at t (work_root h)) ≡ size_in (heading_at t (work_root h))
-        o_long = object_long t (8 * first_page h) (8 * laid) (work_root h) (omega (arith, tl)) q
+      o_long : length (object_at t (work_root h)) ≡ size_in (heading_at t (work_root h))
+      o_long = object_long t (8 * first_page h) (8 * laid) (work_root h) (omega (arith, tl)) q
 
-        desk₁ : Desk h ws d (over 0 (object_at t (work_root h)) m)
-        desk₁ = desk_front h ws d m (object_at t (work_root h)) (omega (arith, o_long, q.short)) desk
+      desk₁ : Desk h ws d (over 0 (object_at t (work_root h)) m)
+      desk₁ = desk_front h ws d m (object_at t (work_root h)) (omega (arith, o_long, q.short)) desk
 
-        z : List ℕ
-        z = take (buffer_words - length (object_at t (work_root h))) (drop (0 + length (object_at t (work_root h))) m)
+      z : List ℕ
+      z = take (buffer_words - length (object_at t (work_root h))) (drop (0 + length (object_at t (work_root h))) m)
 
-        e : buffer_words ≡ length (object_at t (work_root h)) + (buffer_words - length (object_at t (work_root h)))
-        e = omega (arith, o_long, q.short)
+      e : buffer_words ≡ length (object_at t (work_root h)) + (buffer_words - length (object_at t (work_root h)))
+      e = omega (arith, o_long, q.short)
 
-        front : take buffer_words (over 0 (object_at t (work_root h)) m) ≡ object_at t (work_root h) ++ take (buffer_words - length (object_at t (work_root h))) (drop (0 + length (object_at t (work_root h))) m)
-        front =
-            ap (λ i. take i (object_at t (work_root h) ++ drop (0 + length (object_at t (work_root h))) m)) e
-            ∙ take-append-add (object_at t (work_root h)) (drop (0 + length (object_at t (work_root h))) m) (buffer_words - length (object_at t (work_root h)))
+      front : take buffer_words (over 0 (object_at t (work_root h)) m) ≡ object_at t (work_root h) ++ take (buffer_words - length (object_at t (work_root h))) (drop (0 + length (object_at t (work_root h))) m)
+      front =
+          ap (λ i. take i (object_at t (work_root h) ++ drop (0 + length (object_at t (work_root h))) m)) e
+          ∙ take-append-add (object_at t (work_root h)) (drop (0 + length (object_at t (work_root h))) m) (buffer_words - length (object_at t (work_root h)))
 
-        row_is_long : length (row_of (over 0 (object_at t (work_root h)) m)) ≡ row_words
-        row_is_long = ap length desk₁.row ∙ row_long h ws d m₁ desk₁
+      row_is_long : length (row_of (over 0 (object_at t (work_root h)) m)) ≡ row_words
+      row_is_long = ap length desk₁.row ∙ row_long h ws d m₁ desk₁
 
-        spread : RowOf (bytes_at t) (spread_into (object_at t (work_root h) ++ take (buffer_words - length (object_at t (work_root h))) (drop (0 + length (object_at t (work_root h))) m)) (row_of (over 0 (object_at t (work_root h)) m))) tree
-        spread = (kept.spreads z (row_of m₁) (row_two (row_of m₁) row_is_long) (subst (λ i. length tree ≤ i) (sym (row_room (row_of m₁) row_is_long)) few)).1
+      spread : RowOf (bytes_at t) (spread_into (object_at t (work_root h) ++ take (buffer_words - length (object_at t (work_root h))) (drop (0 + length (object_at t (work_root h))) m)) (row_of (over 0 (object_at t (work_root h)) m))) tree
+      spread = (kept.spreads z (row_of m₁) (row_two (row_of m₁) row_is_long) (subst (λ i. length tree ≤ i) (sym (row_room (row_of m₁) row_is_long)) few)).1
+
+      names : references (spread_into (take buffer_words m₁) (row_of m₁)) ≡ files_named t (work_root h)
+      names =
+          ap (λ x. references (spread_into x (row_of m₁))) front ∙ spread_references (o ++ z) (row_of m₁) whole (kept.spreads z (row_of m₁) (row_two (row_of m₁) row_is_long) (subst (λ i. length tree ≤ i) (sym (row_room (row_of m₁) row_is_long)) few)).0
+          ∙ first_names o z long_enough ∙ sym (pick_false (eqb (work_root h) 0) [] (references_of (object_at t (work_root h))) (ne_eqb (work_root h) 0 (λ e. omega (arith, kept.one))))
+        where
+          first : get_or (object_at t (work_root h)) 0 0 ≡ heading_at t (work_root h)
+          first = object_heading t (work_root h) (omega (arith, q.whole))
+
+          long_enough : 2 + references_in (get_or (object_at t (work_root h)) 0 0) ≤ length (object_at t (work_root h))
+          long_enough = subst₂ (λ x y. 2 + references_in x ≤ y) (sym first) (sym o_long) q.whole
+
+          whole : 2 + files_in (o ++ z) ≤ length (o ++ z)
+          whole =
+              let e : get_or (o ++ z) 0 0 ≡ get_or o 0 0 = get_or_append_left o z 0 0 (omega (arith, long_enough)) in
+              subst (λ x. 2 + references_in x ≤ length (o ++ z)) (sym e) (omega (arith, long_enough, length-append o z))
 
   -- a file is asked for, and its bytes are shown
   pub shows_file : (k : Control) (ws d m h t : List ℕ) (laid r : ℕ) (ss : Rows) → Desk h ws d m → length t ≡ 64 * laid → 64 * laid < 18446744073709551616 →
@@ -455,86 +485,85 @@ module _ (sum : Sum) (n : ℕ) (Stop : List ℕ → List ℕ → Rows → Type 0
       root_is = omega arith
 
   -- the file is laid, and named in the row
-  module _ (put_long : (key ws : List ℕ) (size r : ℕ) → length key ≡ 9 → length (put_key key size r ws) ≡ length ws) where
-    -- the file's reference in the row
-    names_file : (h ws d m : List ℕ) (r : ℕ) → length (take 9 d) ≡ 9 → Desk h ws d m →
-        (named r m ≡ with_row (put_key (take 9 d) (weight_said d) r ws) m) × Desk h (put_key (take 9 d) (weight_said d) r ws) d (named r m)
-    names_file h ws d m r nine desk = (is, subst (Desk h ws₁ d) (sym is) (desk_row h ws ws₁ d m (put_long (take 9 d) ws (weight_said d) r nine ∙ row_long h ws d m desk) desk))
-      where
-        ws₁ : List ℕ
-        ws₁ = put_key (take 9 d) (weight_said d) r ws
+  -- the file's reference in the row
+  pub names_file : (h ws d m : List ℕ) (r : ℕ) → length (take 9 d) ≡ 9 → Desk h ws d m →
+      (named r m ≡ with_row (put_key (take 9 d) (weight_said d) r ws) m) × Desk h (put_key (take 9 d) (weight_said d) r ws) d (named r m)
+  names_file h ws d m r nine desk = (is, subst (Desk h ws₁ d) (sym is) (desk_row h ws ws₁ d m (length_put_key (take 9 d) ws (weight_said d) r nine ∙ row_long h ws d m desk) desk))
+    where
+      ws₁ : List ℕ
+      ws₁ = put_key (take 9 d) (weight_said d) r ws
 
-        size : entry_weight m ≡ weight_said d
-        size = ap (λ x. capped (64 + x)) (sym (get_or-drop path_at m 8 0) ∙ ap (λ x. get_or x 8 0) desk.said)
+      size : entry_weight m ≡ weight_said d
+      size = ap (λ x. capped (64 + x)) (sym (get_or-drop path_at m 8 0) ∙ ap (λ x. get_or x 8 0) desk.said)
 
-        is : named r m ≡ with_row (put_key (take 9 d) (weight_said d) r ws) m
-        is =
-            ap (λ x. with_row (put_key x (entry_weight m) r (row_of m)) m) (path_key_is h ws d m desk)
-            ∙ ap (λ x. with_row (put_key (take 9 d) x r (row_of m)) m) size ∙ ap (λ x. with_row (put_key (take 9 d) (weight_said d) r x) m) desk.row
+      is : named r m ≡ with_row (put_key (take 9 d) (weight_said d) r ws) m
+      is =
+          ap (λ x. with_row (put_key x (entry_weight m) r (row_of m)) m) (path_key_is h ws d m desk)
+          ∙ ap (λ x. with_row (put_key (take 9 d) x r (row_of m)) m) size ∙ ap (λ x. with_row (put_key (take 9 d) (weight_said d) r x) m) desk.row
 
-    pub lays_file : (k : Control) (ws d m h t b : List ℕ) (laid : ℕ) (ss : Rows) → Desk h ws d m → length (take 9 d) ≡ 9 → k.bytes ≡ length b → k.sum ≡ sum_key (sum b) →
-        length b < 65536 → take (words_for (length b)) (drop 9 d) ≡ packed_bytes b →
-        laid + pages_of (length (file_of sum b)) ≤ first_page h + n → 64 * (laid + pages_of (length (file_of sum b))) < 18446744073709551616 →
-        ((x m₁ : List ℕ) → length x ≡ 64 * pages_of (length (file_of sum b)) → take (length (file_of sum b)) x ≡ file_of sum b →
-        Desk h (put_key (take 9 d) (weight_said d) (8 * laid + 1) ws) d m₁ →
-        Well (lay_tree (laying LayingFile (laid + pages_of (length (file_of sum b))) k.root k) m₁ (laid + pages_of (length (file_of sum b)))) h (t ++ x)
-        (laid + pages_of (length (file_of sum b))) ss) →
-        Well (lay_file k m laid) h t laid ss
-    lays_file k ws d m h t b laid ss desk nine bytes_are sum_is short packed fits small_tape on =
-        subst (λ (x : Asked Control). Well x h t laid ss) (sym (pick_true (bytes_stand 65535 k.bytes bytes_place m) _ _ stands))
-        (subst (λ (x : List ℕ). Well (laid_from LayingFile k (named (reference_at laid) (over 0 x m)) laid (length x) k.root) h t laid ss) (sym file_is)
-        (subst (λ (r : ℕ). Well (laid_from LayingFile k (named r (over 0 o m)) laid (length o) k.root) h t laid ss) (sym root_is)
-        (lays_object LayingFile k m₂ h t o laid k.root ss desk₂.long (omega (arith, o_long)) (omega (arith, o_long, short)) front fits small_tape
-        (λ x xl xf. goes_on (laying LayingFile (laid + pages_of (length o)) k.root k) m₂ h (t ++ x) (laid + pages_of (length o)) ss desk₂.long (on x m₂ xl xf desk₂)))))
-      where
-        o : List ℕ
-        o = file_of sum b
+  pub lays_file : (k : Control) (ws d m h t b : List ℕ) (laid : ℕ) (ss : Rows) → Desk h ws d m → length (take 9 d) ≡ 9 → k.bytes ≡ length b → k.sum ≡ sum_key (sum b) →
+      length b < 65536 → take (words_for (length b)) (drop 9 d) ≡ packed_bytes b →
+      laid + pages_of (length (file_of sum b)) ≤ first_page h + n → 64 * (laid + pages_of (length (file_of sum b))) < 18446744073709551616 →
+      ((x m₁ : List ℕ) → length x ≡ 64 * pages_of (length (file_of sum b)) → take (length (file_of sum b)) x ≡ file_of sum b →
+      Desk h (put_key (take 9 d) (weight_said d) (8 * laid + 1) ws) d m₁ →
+      Well (lay_tree (laying LayingFile (laid + pages_of (length (file_of sum b))) k.root k) m₁ (laid + pages_of (length (file_of sum b)))) h (t ++ x)
+      (laid + pages_of (length (file_of sum b))) ss) →
+      Well (lay_file k m laid) h t laid ss
+  lays_file k ws d m h t b laid ss desk nine bytes_are sum_is short packed fits small_tape on =
+      subst (λ (x : Asked Control). Well x h t laid ss) (sym (pick_true (bytes_stand 65535 k.bytes bytes_place m) _ _ stands))
+      (subst (λ (x : List ℕ). Well (laid_from LayingFile k (named (reference_at laid) (over 0 x m)) laid (length x) k.root) h t laid ss) (sym file_is)
+      (subst (λ (r : ℕ). Well (laid_from LayingFile k (named r (over 0 o m)) laid (length o) k.root) h t laid ss) (sym root_is)
+      (lays_object LayingFile k m₂ h t o laid k.root ss desk₂.long (omega (arith, o_long)) (omega (arith, o_long, short)) front fits small_tape
+      (λ x xl xf. goes_on (laying LayingFile (laid + pages_of (length o)) k.root k) m₂ h (t ++ x) (laid + pages_of (length o)) ss desk₂.long (on x m₂ xl xf desk₂)))))
+    where
+      o : List ℕ
+      o = file_of sum b
 
-        packed_long : length (packed_bytes b) ≡ words_for (length b)
-        packed_long = length_words (words_for (length b)) (b ++ zeros 7)
+      packed_long : length (packed_bytes b) ≡ words_for (length b)
+      packed_long = length_words (words_for (length b)) (b ++ zeros 7)
 
-        o_long : length (file_of sum b) ≡ 6 + words_for (length b)
-        o_long = omega (arith, packed_long)
+      o_long : length (file_of sum b) ≡ 6 + words_for (length b)
+      o_long = omega (arith, packed_long)
 
-        here : 229611 + words_for (length b) ≤ length m
-        here = omega (arith, desk.long, short)
+      here : 229611 + words_for (length b) ≤ length m
+      here = omega (arith, desk.long, short)
 
-        stands : bytes_stand 65535 k.bytes bytes_place m ≡ true
-        stands = ap (λ i. bytes_stand 65535 i bytes_place m) bytes_are ∙ stands_there (length b) m short desk.long
+      stands : bytes_stand 65535 k.bytes bytes_place m ≡ true
+      stands = ap (λ i. bytes_stand 65535 i bytes_place m) bytes_are ∙ stands_there (length b) m short desk.long
 
-        place_is : drop bytes_place m ≡ drop 9 d
-        place_is = sym (drop-drop 9 path_at m) ∙ ap (drop 9) desk.said
+      place_is : drop bytes_place m ≡ drop 9 d
+      place_is = sym (drop-drop 9 path_at m) ∙ ap (drop 9) desk.said
 
-        file_is : file_in k m ≡ file_of sum b
-        file_is =
-            ap (λ x. file_object (key_words x) k.bytes (words_at k.bytes bytes_place m)) sum_is
-            ∙ ap (λ i. file_object (key_words (sum_key (sum b))) i (words_at i bytes_place m)) bytes_are
-            ∙ ap (λ x. file_object (key_words (sum_key (sum b))) (length b) (take (words_for (length b)) x)) place_is
-            ∙ ap (file_object (key_words (sum_key (sum b))) (length b)) packed
+      file_is : file_in k m ≡ file_of sum b
+      file_is =
+          ap (λ x. file_object (key_words x) k.bytes (words_at k.bytes bytes_place m)) sum_is
+          ∙ ap (λ i. file_object (key_words (sum_key (sum b))) i (words_at i bytes_place m)) bytes_are
+          ∙ ap (λ x. file_object (key_words (sum_key (sum b))) (length b) (take (words_for (length b)) x)) place_is
+          ∙ ap (file_object (key_words (sum_key (sum b))) (length b)) packed
 
-        root_is : reference_at laid ≡ 8 * laid + 1
-        root_is = omega arith
+      root_is : reference_at laid ≡ 8 * laid + 1
+      root_is = omega arith
 
-        m₁ : List ℕ
-        m₁ = over 0 (file_of sum b) m
+      m₁ : List ℕ
+      m₁ = over 0 (file_of sum b) m
 
-        desk₁ : Desk h ws d (over 0 (file_of sum b) m)
-        desk₁ = desk_front h ws d m (file_of sum b) (omega (arith, o_long, short)) desk
+      desk₁ : Desk h ws d (over 0 (file_of sum b) m)
+      desk₁ = desk_front h ws d m (file_of sum b) (omega (arith, o_long, short)) desk
 
-        m₂ : List ℕ
-        m₂ = named (8 * laid + 1) (over 0 (file_of sum b) m)
+      m₂ : List ℕ
+      m₂ = named (8 * laid + 1) (over 0 (file_of sum b) m)
 
-        put : (named (8 * laid + 1) m₁ ≡ with_row (put_key (take 9 d) (weight_said d) (8 * laid + 1) ws) m₁) × Desk h (put_key (take 9 d) (weight_said d) (8 * laid + 1) ws) d (named (8 * laid + 1) m₁)
-        put = names_file h ws d m₁ (8 * laid + 1) nine desk₁
+      put : (named (8 * laid + 1) m₁ ≡ with_row (put_key (take 9 d) (weight_said d) (8 * laid + 1) ws) m₁) × Desk h (put_key (take 9 d) (weight_said d) (8 * laid + 1) ws) d (named (8 * laid + 1) m₁)
+      put = names_file h ws d m₁ (8 * laid + 1) nine desk₁
 
-        desk₂ : Desk h (put_key (take 9 d) (weight_said d) (8 * laid + 1) ws) d m₂
-        desk₂ = put.1
+      desk₂ : Desk h (put_key (take 9 d) (weight_said d) (8 * laid + 1) ws) d m₂
+      desk₂ = put.1
 
-        front : take (length o) m₂ ≡ o
-        front =
-            ap (take (length o)) put.0
-            ∙ part_before 0 (length o) row_at (put_key (take 9 d) (weight_said d) (8 * laid + 1) ws ++ drop (row_at + length (put_key (take 9 d) (weight_said d) (8 * laid + 1) ws)) m₁) m₁ (omega (arith, o_long, short)) (omega (arith, desk₁.long))
-            ∙ take_at o (drop (0 + length o) m) (length o) refl
+      front : take (length o) m₂ ≡ o
+      front =
+          ap (take (length o)) put.0
+          ∙ part_before 0 (length o) row_at (put_key (take 9 d) (weight_said d) (8 * laid + 1) ws ++ drop (row_at + length (put_key (take 9 d) (weight_said d) (8 * laid + 1) ws)) m₁) m₁ (omega (arith, o_long, short)) (omega (arith, desk₁.long))
+          ∙ take_at o (drop (0 + length o) m) (length o) refl
 
   -- what will be live is surveyed
   pub surveys : (k : Control) (ws d m h t : List ℕ) (ss : Rows) → Desk h ws d m → drop 3 h ≡ zeros 29 → length t ≡ 64 * last_page h →
