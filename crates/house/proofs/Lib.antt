@@ -13,3 +13,4 @@ pub mod Sheets
 pub mod ShelfLaws
 pub mod NewShelf
 pub mod SurveyLaws
+pub mod Commands

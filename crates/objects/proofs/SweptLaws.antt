@@ -200,6 +200,7 @@ module _ (t h ls z : List ℕ) (lo from : ℕ) (off : ℕ → ℕ) (tape : lengt
       record {
         name = name;
         none_is_none = none;
+        some_is_some = λ r l. omega (arith, name_is r l);
         first_is = e;
         last_is = ap (λ x. x + (added_up (units_at t) ls + 7) / 8) e;
         tape_length = omega (arith, length-append t z, z_long);

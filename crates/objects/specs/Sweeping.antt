@@ -124,6 +124,7 @@ SweepsIn p put back = (s : Sweep) (m : List ℕ) → length m ≡ bulk_cells →
 pub record Swept (t h t₁ h₁ ls : List ℕ) : Type 0 where
   pub name : ℕ → ℕ
   pub none_is_none : name 0 ≡ 0
+  pub some_is_some : (r : ℕ) → Live t (roots_of h) r → 1 ≤ name r
   pub first_is : first_page h₁ ≡ last_page h
   pub last_is : last_page h₁ ≡ last_page h + (added_up (units_at t) ls + 7) / 8
   pub tape_length : length t₁ ≡ 64 * last_page h₁
