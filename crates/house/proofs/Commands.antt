@@ -18,20 +18,26 @@ use Rattle.objects.specs.Sweeping.{roots_of, Swept}
 use Rattle.objects.specs.declared.sweep.Sweep.{Sweep}
 use Rattle.objects.proofs.RoomLaws.{ring_has_room}
 use Rattle.trees.specs.Tree.{Tree}
+use Rattle.trees.specs.Row.{references}
+use Rattle.trees.specs.RowOf.{RowOf}
 use Rattle.history.specs.Book.{Sum}
-use Rattle.commands.specs.Command.{Command}
-use Rattle.house.specs.House.{Plain, clone_at}
-use Rattle.house.specs.Promise.{Allowed}
+use Rattle.commands.specs.Command.{Command, spelled, fits, leave}
+use Rattle.commands.specs.Parse.{parsed}
+use Rattle.house.specs.House.{Plain, Turn, turn, clone_at, set_clone, yes_with}
+use Rattle.house.specs.Facts.{FineTree}
+use Rattle.house.proofs.TurnLaws.{clone_at_same}
+use Rattle.house.specs.Promise.{Said, Allowed, KnownAllowed}
 use Rattle.house.specs.Simulation.{Setting}
-use Rattle.house.specs.OnTape.{StopStands, EndStands}
-use Rattle.house.specs.Control.{desk_end, row_of, path_at, head_word, at_phase, sweeping, again, controlling, recalled, started, lays, tight}
-use Rattle.house.specs.Shelf.{Shelf, Stands, Simple, Remembers, working, work_root, files_named}
+use Rattle.house.specs.OnTape.{StopStands, EndStands, Answered}
+use Rattle.house.specs.Control.{desk_end, row_of, path_at, head_word, at_phase, sweeping, again, controlling, control_hears, control_client, sheets, said_of, heard_of, hearing, no_sum, load, loaded, publish, recalled, started, lays, tight}
+use Rattle.house.specs.Shelf.{bytes_at, Shelf, Stands, Simple, Remembers, working, work_root, files_named}
 use Rattle.house.specs.declared.control.Control.{Control}
 use Rattle.house.specs.declared.control.Phase.{Phase}
 use Rattle.house.specs.declared.control.Phase.TheVariants.{Recalling}
 use Rattle.house.proofs.DeskLaws.{Desk, head_word_is}
-use Rattle.house.proofs.ShelfLaws.{head_long, lives_of, shelf_fits, shelf_swept}
-use Rattle.house.proofs.Sheets.{Well, begins, recalls_head}
+use Rattle.house.proofs.ShelfLaws.{head_long, root_live, file_live, lives_of, shelf_fits, shelf_swept}
+use Rattle.house.specs.declared.control.Task.TheVariants.{Write, Drop, Read, Status, Leave}
+use Rattle.house.proofs.Sheets.{Well, begins, recalls_head, loads_tree, publishes_head}
 
 -- the ring has room for three reserves, and no reserve is large
 reserve_small : (pages : ℕ) → pages ≤ 1048576 → reserve pages ≤ 524288
@@ -132,3 +138,128 @@ module _ (s : Setting) (n : ℕ) (size : suc n ≡ s.pages) (low : 64 ≤ s.page
             both : (b : Bool) → b && false ≡ false
             both true = refl
             both false = refl
+
+  -- what a tape stands for, at a command of a house that has a tree in work
+  module _ (known_is : s.known ≡ sheets) (things c : ℕ) (w : Plain) (lt : c < length w.clones) (tree : Tree) (clone_is : clone_at w.clones c ≡ working tree)
+      (fine : FineTree tree) (k : Control) (knows : Remembers s.pages c k) where
+    Spots : List ℕ → List ℕ → Type 0
+    Spots h t = Spot s.sum s.pages things tree h t
+
+    stands_at : (h t : List ℕ) → Spot s.sum s.pages things tree h t → Stands s.sum s.pages things c w h t
+    stands_at h t spot = record { tree = tree; clone = clone_is; shelf = spot.shelf; bounded = omega (arith, spot.slack) }
+
+    -- the plain houses after it, with a tree in work there
+    after_with : Tree → Plain
+    after_with u = record { book = w.book; clones = set_clone w.clones c (working u) }
+
+    same_after : Plain
+    same_after = record { book = w.book; clones = set_clone w.clones c (clone_at w.clones c) }
+
+    stands_after : (u : Tree) (h t : List ℕ) → Spot s.sum s.pages things u h t → Stands s.sum s.pages things c (record { book = w.book; clones = set_clone w.clones c (working u) }) h t
+    stands_after u h t spot = record { tree = u; clone = clone_at_same w.clones c (working u) lt; shelf = spot.shelf; bounded = omega (arith, spot.slack) }
+
+    stands_same : (h t : List ℕ) → Spot s.sum s.pages things tree h t → Stands s.sum s.pages things c (record { book = w.book; clones = set_clone w.clones c (clone_at w.clones c) }) h t
+    stands_same h t spot =
+        record { tree = tree; clone = clone_at_same w.clones c (clone_at w.clones c) lt ∙ clone_is; shelf = spot.shelf; bounded = omega (arith, spot.slack) }
+
+    -- all of a tape is published that ends with its window
+    all_published : (u : Tree) (h t : List ℕ) → Spot s.sum s.pages things u h t → published h t ≡ t
+    all_published u h t spot = take_all (64 * last_page h) t (omega (arith, spot.shelf.whole))
+
+    abbrev Stop : Plain → Rows → List ℕ → List ℕ → Rows → Type 0
+    Stop after rows = StopStands (Stands s.sum s.pages) things c w after rows
+
+    abbrev End : Plain → Rows → ℕ → Control → List ℕ → List ℕ → List ℕ → ℕ → Rows → ℕ → Type 0
+    End after rows reply = EndStands (Remembers s.pages) (Stands s.sum s.pages) things c after rows reply
+
+    -- a stop while nothing was shown or published
+    stops_before : (after : Plain) (rows : Rows) (h t : List ℕ) → Spot s.sum s.pages things tree h t → Stop after rows h t []
+    unfolding StopStands
+    stops_before after rows h t spot = ((rows, refl), (w, inl refl, stands_at h t spot))
+
+    -- an end at which the plain houses are as before
+    ends_before : (rows : Rows) (reply : ℕ) (k₁ : Control) (m h t : List ℕ) → Remembers s.pages c k₁ → Spot s.sum s.pages things tree h t → End w rows reply k₁ m h t (last_page h) rows reply
+    unfolding EndStands
+    ends_before rows reply k₁ m h t r spot = (refl, refl, subst (Stands s.sum s.pages things c w h) (sym (all_published tree h t spot)) (stands_at h t spot), r)
+
+    -- how it comes out by the plain turn
+    comes_out : (h t m text : List ℕ) (a : Command) → spelled a ≡ text → fits a ≡ true → sheets a ≡ true → (v : Turn) → turn s.sum w c (clone_at w.clones c) a ≡ v →
+        Does (controlling s.sum) n (Stop v.next v.shows) (End v.next v.shows v.reply) (control_hears s.sum k m text) h t (last_page h) [] →
+        Answered (control_client s.sum) (Remembers s.pages) (Stands s.sum s.pages) s n things c w k m h t text
+    unfolding Allowed Said KnownAllowed
+    comes_out h t m text a e f g v is does =
+        record {
+          rows = v.shows;
+          reply = v.reply;
+          after = v.next;
+          allowed = λ ls up. inl (a, (e, f), ap (λ (q : Command → Bool). q a) known_is ∙ g, inl (ap (λ (x : Turn). x.reply) (sym is), ap (λ (x : Turn). x.shows) (sym is), ap (λ (x : Turn). x.next) (sym is)));
+          does = does;
+        }
+
+    -- a command that was read is said
+    says : (m text : List ℕ) (a : Command) → length m ≡ bulk_cells → parsed text ≡ Some a → control_hears s.sum k m text ≡ said_of s.sum k m a
+    says m text a l e = pick_false (ltb (length m) desk_end) _ _ (le-ltb (length m) desk_end (omega (arith, l))) ∙ ap (heard_of s.sum k m) e
+
+    -- what a task needs of the spot where it starts
+    module _ (h t : List ℕ) (spot : Spot s.sum s.pages things tree h t) where
+      small_spot : 64 * last_page h < 18446744073709551616
+      small_spot = omega (arith, spot.slack)
+
+      root_placed : 1 ≤ work_root h → Placed t (8 * first_page h) (8 * last_page h) (work_root h)
+      root_placed one = spot.shelf.heap.placed (work_root h) (root_live s.sum s.pages h t tree spot.shelf one)
+
+      file_placed : (r : ℕ) → has (files_named t (work_root h)) r ≡ true → Placed t (8 * first_page h) (8 * last_page h) r
+      file_placed r e = spot.shelf.heap.placed r (file_live s.sum s.pages h t tree spot.shelf r e)
+
+    -- the tree in work is loaded, for whatever is shown
+    module _ (Stop : List ℕ → List ℕ → Rows → Type 0) (End : Control → List ℕ → List ℕ → List ℕ → ℕ → Rows → ℕ → Type 0) where
+      loads : (k₁ : Control) (ws d m h t : List ℕ) (ss : Rows) → Desk h ws d m → Spot s.sum s.pages things tree h t →
+          ((p : Phase) (ws₁ m₁ : List ℕ) → Desk h ws₁ d m₁ → RowOf (bytes_at t) ws₁ tree → references ws₁ ≡ files_named t (work_root h) →
+          Well s.sum n Stop End (loaded (at_phase p k₁) m₁ k₁.task) h t (last_page h) ss) →
+          Well s.sum n Stop End (load k₁ m) h t (last_page h) ss
+      loads k₁ ws d m h t ss desk spot on =
+          loads_tree s.sum n Stop End k₁ ws d m h t (last_page h) ss tree desk spot.shelf.whole (small_spot h t spot) spot.shelf.work (root_placed h t spot) fine.few on
+
+      -- a command that was said begins
+      hears : (k₁ : Control) (m h t : List ℕ) → k₁.pages ≡ s.pages → length m ≡ bulk_cells → Window n h t (last_page h) → Spot s.sum s.pages things tree h t →
+          last_page h + 2097152 * things + 2097152 ≤ 18014398509481984 →
+          ((h₁ t₁ : List ℕ) → Spot s.sum s.pages things tree h₁ t₁ → Stop h₁ t₁ []) →
+          ((v : Sweep) (m₁ h₁ t₁ : List ℕ) → Spot s.sum s.pages things tree h₁ t₁ → Desk h₁ (row_of m) (drop path_at m) m₁ →
+          (lays k₁.task ≡ true → 2 * reserve s.pages + (last_page h₁ - first_page h₁) ≤ n) →
+          Well s.sum n Stop End (started (at_phase Recalling (sweeping k₁ v)) m₁ k₁.task) h₁ t₁ (last_page h₁) []) →
+          Well s.sum n Stop End (asked (at_phase Recalling k₁) m Recall) h t (last_page h) []
+      hears k₁ m h t pages_are long win spot slack stop ready =
+          recalls_head s.sum n Stop End k₁ (take 32 (drop head_at m)) (row_of m) (drop path_at m) m h t (last_page h) [] (record { long = long; head = refl; row = refl; said = refl })
+          (λ m₁ desk. serves things tree Stop End k₁ (row_of m) (drop path_at m) m₁ h t pages_are desk win spot slack stop ready)
+
+    module _ (h t m text : List ℕ) (long : length m ≡ bulk_cells) (win : Window n h t (last_page h)) (spot : Spot s.sum s.pages things tree h t)
+        (slack : last_page h + 2097152 * things + 2097152 ≤ 18014398509481984) where
+      Out : Type 0
+      Out = Answered (control_client s.sum) (Remembers s.pages) (Stands s.sum s.pages) s n things c w k m h t text
+
+      -- LEAVE
+      leaves : parsed text ≡ Some leave → spelled leave ≡ text → Out
+      unfolding turn Out StopStands EndStands
+      leaves e sp =
+          comes_out h t m text leave sp refl refl (yes_with [] w.book w c (working [])) turned
+          (subst (λ (x : Asked Control). Well s.sum n (Stop (after_with []) []) (End (after_with []) [] 0) x h t (last_page h) []) (sym (says m text leave long e))
+          (hears (Stop (after_with []) []) (End (after_with []) [] 0) (hearing Leave 0 no_sum k) m h t knows.pages_are long win spot slack (stops_before (after_with []) [])
+          (λ v m₁ h₁ t₁ spot₁ desk room.
+          subst (λ i. Well s.sum n (Stop (after_with []) []) (End (after_with []) [] 0) (publish (at_phase Recalling (sweeping (hearing Leave 0 no_sum k) v)) m₁ i 0) h₁ t₁ (last_page h₁) [])
+          (sym (head_word_is h₁ (row_of m) (drop path_at m) m₁ 1 (omega arith) desk))
+          (publishes_head s.sum n (Stop (after_with []) []) (End (after_with []) [] 0) (at_phase Recalling (sweeping (hearing Leave 0 no_sum k) v)) (row_of m) (drop path_at m) m₁ h₁ t₁
+          (last_page h₁) (last_page h₁) 0 [] desk (head_long h₁ spot₁.shelf.others) spot₁.rises (omega arith)
+          (([], refl), (after_with [], inr refl, subst (Stands s.sum s.pages things c (after_with []) (left h₁)) (sym (all_left h₁ t₁ spot₁)) (stands_after [] (left h₁) t₁ (spot_left h₁ t₁ spot₁))))
+          (λ p m₂. (refl, refl, subst (Stands s.sum s.pages things c (after_with []) (left h₁)) (sym (all_left h₁ t₁ spot₁)) (stands_after [] (left h₁) t₁ (spot_left h₁ t₁ spot₁)), record { house = knows.house; pages_are = knows.pages_are }))))))
+        where
+          turned : turn s.sum w c (clone_at w.clones c) leave ≡ yes_with [] w.book w c (working [])
+          turned = ?
+
+          left : List ℕ → List ℕ
+          left h₁ = first_page h₁ ∷ last_page h₁ ∷ 0 ∷ drop 3 h₁
+
+          spot_left : (h₁ t₁ : List ℕ) → Spot s.sum s.pages things tree h₁ t₁ → Spot s.sum s.pages things [] (first_page h₁ ∷ last_page h₁ ∷ 0 ∷ drop 3 h₁) t₁
+          spot_left h₁ t₁ spot₁ = ?
+
+          all_left : (h₁ t₁ : List ℕ) → (spot₁ : Spot s.sum s.pages things tree h₁ t₁) → published (left h₁) t₁ ≡ t₁
+          all_left h₁ t₁ spot₁ = all_published [] (left h₁) t₁ (spot_left h₁ t₁ spot₁)
