@@ -109,7 +109,7 @@ module _ (s : Setting) (n : ℕ) (size : suc n ≡ s.pages) (low : 64 ≤ s.page
         spot_swept : (h₁ t₁ : List ℕ) → Swept t h t₁ h₁ ls.0 → Spot s.sum s.pages things tree h₁ t₁
         spot_swept h₁ t₁ w =
             record {
-              shelf = shelf_swept s.sum s.pages h t h₁ t₁ ls.0 tree spot.shelf w w.some_is_some low ls.1;
+              shelf = shelf_swept s.sum s.pages h t h₁ t₁ ls.0 tree spot.shelf w low ls.1;
               rises = omega (arith, w.first_is, w.last_is);
               slack = omega (arith, w.last_is, fits_in, small, slack);
             }

@@ -338,8 +338,7 @@ zero_or zero = inl refl
 zero_or (suc n) = inr (omega arith)
 
 -- A SWEEP leaves a shelf as it was, if no live name becomes none
-module _ (sum : Sum) (pages : ℕ) (h t h₁ t₁ ls : List ℕ) (tree : Tree) (s : Shelf sum pages h t tree) (w : Swept t h t₁ h₁ ls)
-    (some : (r : ℕ) → Live t (roots_of h) r → 1 ≤ w.name r) where
+module _ (sum : Sum) (pages : ℕ) (h t h₁ t₁ ls : List ℕ) (tree : Tree) (s : Shelf sum pages h t tree) (w : Swept t h t₁ h₁ ls) where
   new_root : work_root h₁ ≡ w.name (work_root h)
   new_root =
       sym (get_or-take 8 (drop 2 h₁) 0 0 (omega arith) ∙ get_or-drop 2 h₁ 0 0)
@@ -396,7 +395,7 @@ module _ (sum : Sum) (pages : ℕ) (h t h₁ t₁ ls : List ℕ) (tree : Tree) (
         let k : TreeAt t (work_root h) tree = work_at sum pages h t tree s one in
         let o : List ℕ = object_at t (work_root h) in
         record {
-          one = some (work_root h) live_tree;
+          one = w.some_is_some (work_root h) live_tree;
           kind = ap kind_in heading ∙ k.kind;
           light = ap own_weight is ∙ second ∙ k.light;
           weighs = ap tree_weight_in is ∙ ap (λ u. get_or u 0 0) (renamed_right w.name o whole).0.kept ∙ k.weighs;
@@ -450,7 +449,7 @@ module _ (sum : Sum) (pages : ℕ) (h t h₁ t₁ ls : List ℕ) (tree : Tree) (
       work (inr k) = inr (tree_moved k.one)
 
       file : (q : ℕ) → Old q → FileAt sum t₁ q
-      file q (r, e, n) = subst (FileAt sum t₁) n (file_alike sum t t₁ r (w.name r) (some r (live_file r e)) (moved r e) (s.files r e))
+      file q (r, e, n) = subst (FileAt sum t₁) n (file_alike sum t t₁ r (w.name r) (w.some_is_some r (live_file r e)) (moved r e) (s.files r e))
 
       alike : (a b : ℕ) → Old a → Old b → bytes_at t₁ a ≡ bytes_at t₁ b → a ≡ b
       alike a b (r, e, n) (q, f, m) k =
