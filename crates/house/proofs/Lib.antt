@@ -10,6 +10,7 @@ pub mod Nothing
 pub mod Started
 pub mod DeskLaws
 pub mod Sheets
+pub mod ControlLaws
 pub mod ShelfLaws
 pub mod NewShelf
 pub mod SurveyLaws

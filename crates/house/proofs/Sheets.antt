@@ -83,7 +83,7 @@ path_fits k = (
   all_bytes_take (get_or k 8 0) (bytes_of (take 8 k)) (all_bytes_of (take 8 k)),
 )
 
-shown_fits : (xs ys : List ℕ) (v : Place) → (length (shown xs ys v) ≤ 65) × (all_bytes (shown xs ys v) ≡ true)
+pub shown_fits : (xs ys : List ℕ) (v : Place) → (length (shown xs ys v) ≤ 65) × (all_bytes (shown xs ys v) ≡ true)
 unfolding all_bytes
 shown_fits xs ys (New j) = (omega (arith, (path_fits (take 9 (drop (10 * j + 2) ys))).0), (path_fits (take 9 (drop (10 * j + 2) ys))).1)
 shown_fits xs ys (Changed j) = (omega (arith, (path_fits (take 9 (drop (10 * j + 2) ys))).0), (path_fits (take 9 (drop (10 * j + 2) ys))).1)
