@@ -1,47 +1,113 @@
 -- Each command of the house that keeps sheets in work, on its tape: what it shows, how it ends, and what the tape stands for then. Assumes nothing.
-use Rattle.std.proofs.Common.{◌≡◌, ℕ, zero, suc, ◌+◌, ◌-◌, ◌*◌, ◌/◌, ◌<◌, ◌≤◌, min, Bool, true, false, ◌&&◌, eqb, ltb, leb, ◌⊎◌, List, [], ◌∷◌, ◌++◌, length, get_or, take, drop, Some, None, Option, sym, refl, ap, ◌∙◌, subst, subst₂, ap₂, inl, inr, arith, append-nil, length-append, length-drop}
-use Rattle.std.proofs.lemmas.Bool.{false≢true, le-ltb, lt-ltb, ltb-true, ltb-false, le-leb, leb-true, and_parts}
+use Rattle.std.proofs.Common.{◌≡◌, ℕ, zero, suc, ◌+◌, ◌-◌, ◌*◌, ◌/◌, ◌<◌, ◌≤◌, min, Bool, true, false, ◌&&◌, eqb, ltb, leb, ◌⊎◌, List, [], ◌∷◌, ◌++◌, length, get_or, take, drop, Some, None, Option, sym, refl, ap, ◌∙◌, subst, subst₂, ap₂, inl, inr, ⊎_elim, arith, append-nil, length-append, length-drop}
+use Rattle.std.proofs.lemmas.Bool.{false≢true, eqb-true, le-ltb, lt-ltb, ltb-true, ltb-false, le-leb, leb-true, and_parts}
 use Rattle.std.proofs.lemmas.List.{take_all}
-use Rattle.pages.specs.Lists.{pick, each, has, zeros, added_up}
-use Rattle.pages.specs.Words.{over}
+use Rattle.pages.specs.Lists.{pick, each, has, none_of, zeros, added_up, distinct}
+use Rattle.pages.specs.Bytes.{all_bytes}
+use Rattle.pages.specs.Words.{over, words}
+use Rattle.pages.proofs.WordLaws.{length_over, length_words}
 use Rattle.pages.specs.Object.{object_at}
 use Rattle.pages.specs.Crash.{Rows}
 use Rattle.pages.specs.Engine.{bulk_cells}
 use Rattle.pages.specs.Machine.{Asked, asked, capped}
-use Rattle.pages.specs.Tape.{first_page, last_page, published, Window, Does}
+use Rattle.pages.specs.Tape.{first_page, last_page, published, Window, Does, finishes}
 use Rattle.pages.specs.declared.machine.Request.TheVariants.{Recall, Done, Refuse}
-use Rattle.pages.proofs.ListLaws.{pick_true, pick_false, pick_both}
-use Rattle.objects.specs.Heap.{Heap, Lives, Placed, units_at}
+use Rattle.pages.proofs.ListLaws.{pick_true, pick_false, pick_both, or_cases}
+use Rattle.objects.specs.Heap.{Live, root, named, Heap, Lives, Placed, units_at}
 use Rattle.objects.specs.Plan.{head_at}
 use Rattle.objects.specs.Room.{reserve, RingHasRoom}
 use Rattle.objects.specs.Sweeping.{roots_of, Swept}
 use Rattle.objects.specs.declared.sweep.Sweep.{Sweep}
+use Rattle.objects.proofs.PartLaws.{parts_stay}
 use Rattle.objects.proofs.RoomLaws.{ring_has_room}
-use Rattle.trees.specs.Tree.{Tree}
-use Rattle.trees.specs.Row.{references}
-use Rattle.trees.specs.RowOf.{RowOf}
+use Rattle.trees.specs.Tree.{Tree, found}
+use Rattle.trees.specs.Row.{good_path, key_of, entries_of, find_in, reference_in, references}
+use Rattle.trees.specs.RowOf.{proper, weight_of, RowOf}
+use Rattle.trees.specs.RowPromises.{FindsRight, listed}
+use Rattle.trees.proofs.RowOfLaws.{finds_right}
+use Rattle.trees.proofs.RowParts.{find_references}
 use Rattle.history.specs.Book.{Sum}
-use Rattle.commands.specs.Command.{Command, spelled, fits, leave}
+use Rattle.commands.specs.Command.{Command, spelled, fits, leave, read_file}
 use Rattle.commands.specs.Parse.{parsed}
-use Rattle.house.specs.House.{Plain, Turn, turn, clone_at, set_clone, yes_with}
+use Rattle.house.specs.House.{Plain, Turn, turn, Clone, clone_at, set_clone, no, yes_with, with_work, tree_of, tip, ref_of}
 use Rattle.house.specs.Facts.{FineTree}
 use Rattle.house.proofs.TurnLaws.{clone_at_same}
 use Rattle.house.specs.Promise.{Said, Allowed, KnownAllowed}
 use Rattle.house.specs.Simulation.{Setting}
 use Rattle.house.specs.OnTape.{StopStands, EndStands, Answered}
-use Rattle.house.specs.Control.{desk_end, row_of, path_at, head_word, at_phase, sweeping, again, controlling, control_hears, control_client, sheets, said_of, heard_of, hearing, no_sum, load, loaded, publish, recalled, started, lays, tight}
+use Rattle.house.specs.Control.{desk_end, row_of, path_at, head_word, at_phase, sweeping, again, controlling, control_hears, control_client, sheets, said_of, heard_of, hearing, no_sum, load, loaded, opened, publish, path_put, path_key, recalled, started, lays, tight}
 use Rattle.house.specs.Shelf.{bytes_at, Shelf, Stands, Simple, Remembers, working, work_root, files_named}
 use Rattle.house.specs.declared.control.Control.{Control}
 use Rattle.house.specs.declared.control.Phase.{Phase}
 use Rattle.house.specs.declared.control.Phase.TheVariants.{Recalling}
-use Rattle.house.proofs.DeskLaws.{Desk, head_word_is}
+use Rattle.house.proofs.DeskLaws.{Desk, head_word_is, path_key_is}
 use Rattle.house.proofs.ShelfLaws.{head_long, root_live, file_live, lives_of, shelf_fits, shelf_swept}
 use Rattle.house.specs.declared.control.Task.TheVariants.{Write, Drop, Read, Status, Leave}
-use Rattle.house.proofs.Sheets.{Well, begins, recalls_head, loads_tree, publishes_head}
+use Rattle.house.proofs.Sheets.{Well, begins, recalls_head, loads_tree, shows_file, publishes_head}
 
 -- the ring has room for three reserves, and no reserve is large
 reserve_small : (pages : ℕ) → pages ≤ 1048576 → reserve pages ≤ 524288
 reserve_small pages few = omega arith
+
+-- WHAT IS SAID is put aside
+record Said_path (p m : List ℕ) : Type 0 where
+  long : length (path_put p m) ≡ bulk_cells
+  key : take 9 (drop path_at (path_put p m)) ≡ key_of p
+
+key_long : (p : List ℕ) → length (key_of p) ≡ 9
+unfolding key_of
+key_long p = omega (arith, length-append (words 8 (p ++ zeros (64 - length p))) (length p ∷ []), length_words 8 (p ++ zeros (64 - length p)))
+
+path_said : (p m : List ℕ) → length m ≡ bulk_cells → good_path p ≡ true → Said_path p m
+path_said p m l good =
+    record {
+      long = ap length is ∙ length_over path_at (key_of p) m (omega (arith, l, key_long p)) ∙ l;
+      key =
+          ap (λ x. take 9 (drop path_at x)) is ∙ ap (λ i. take i (drop path_at (over path_at (key_of p) m))) (sym (key_long p))
+          ∙ parts_stay.here path_at (key_of p) m (omega (arith, l, key_long p));
+    }
+  where
+    is : path_put p m ≡ over path_at (key_of p) m
+    is = pick_true (good_path p) (over path_at (key_of p) m) m good
+
+-- a key is found as its path is
+find_by_key : (p ws : List ℕ) → proper p ≡ true → find_in p ws ≡ reference_in (found (entries_of ws) (key_of p))
+unfolding find_in
+find_by_key p ws good = pick_true (good_path p) (reference_in (found (entries_of ws) (key_of p))) None (and_parts (good_path p) (all_bytes p) good).0
+
+find_right : (stands : ℕ → List ℕ) (ws : List ℕ) (t : Tree) (p : List ℕ) → RowOf stands ws t → proper p ≡ true → each stands (listed (find_in p ws)) ≡ found t p
+unfolding FindsRight
+find_right = finds_right
+
+-- A HEAD THAT NAMES NOTHING has an empty shelf
+nothing_live : (t : List ℕ) (r : ℕ) → Live t (zeros 8) r → ⊥
+unfolding zeros
+nothing_live t r (root s one e) = go 8 e
+  where
+    go : (i : ℕ) → has (zeros i) s ≡ true → ⊥
+    go zero e = false≢true e
+    go (suc i) e = ⊎_elim (λ z. let q : 0 ≡ s = eqb-true 0 s z in absurd (omega arith)) (go i) (or_cases (eqb 0 s) (has (zeros i) s) e)
+nothing_live t r (named s q one l e) = nothing_live t q l
+
+shelf_left : (sum : Sum) (pages : ℕ) (h t : List ℕ) (tree : Tree) → Shelf sum pages h t tree → Shelf sum pages (first_page h ∷ last_page h ∷ 0 ∷ drop 3 h) t []
+unfolding weight_of added_up distinct zeros
+shelf_left sum pages h t tree s =
+    record {
+      whole = s.whole;
+      others = s.others;
+      heap = record { placed = λ r l. absurd (none r l); apart = λ r q l k lt. absurd (none r l) };
+      work = inl (refl, refl);
+      files = λ r e. absurd (false≢true e);
+      once = λ r q e f k. absurd (false≢true e);
+      weight = omega arith;
+      ring = s.ring;
+    }
+  where
+    none : (r : ℕ) → Live t (roots_of (first_page h ∷ last_page h ∷ 0 ∷ drop 3 h)) r → ⊥
+    none r l = nothing_live t r (subst (λ rs. Live t rs r) (ap (λ x. 0 ∷ take 7 x) s.others) l)
+
+abbrev turned_left : Plain → ℕ → Clone → Turn
+turned_left w c x = yes_with [] w.book w c (with_work x (tree_of w.book (tip x)) [] [])
 
 -- WHERE A COMMAND STANDS: the tape holds a tree in work; what may still be laid fits into the numbers
 pub record Spot (sum : Sum) (pages things : ℕ) (tree : Tree) (h t : List ℕ) : Type 0 where
@@ -149,10 +215,10 @@ module _ (s : Setting) (n : ℕ) (size : suc n ≡ s.pages) (low : 64 ≤ s.page
     stands_at h t spot = record { tree = tree; clone = clone_is; shelf = spot.shelf; bounded = omega (arith, spot.slack) }
 
     -- the plain houses after it, with a tree in work there
-    after_with : Tree → Plain
+    abbrev after_with : Tree → Plain
     after_with u = record { book = w.book; clones = set_clone w.clones c (working u) }
 
-    same_after : Plain
+    abbrev same_after : Plain
     same_after = record { book = w.book; clones = set_clone w.clones c (clone_at w.clones c) }
 
     stands_after : (u : Tree) (h t : List ℕ) → Spot s.sum s.pages things u h t → Stands s.sum s.pages things c (record { book = w.book; clones = set_clone w.clones c (working u) }) h t
@@ -239,7 +305,7 @@ module _ (s : Setting) (n : ℕ) (size : suc n ≡ s.pages) (low : 64 ≤ s.page
 
       -- LEAVE
       leaves : parsed text ≡ Some leave → spelled leave ≡ text → Out
-      unfolding turn Out StopStands EndStands
+      unfolding turn Out StopStands EndStands fits sheets tree_of ref_of
       leaves e sp =
           comes_out h t m text leave sp refl refl (yes_with [] w.book w c (working [])) turned
           (subst (λ (x : Asked Control). Well s.sum n (Stop (after_with []) []) (End (after_with []) [] 0) x h t (last_page h) []) (sym (says m text leave long e))
@@ -253,13 +319,70 @@ module _ (s : Setting) (n : ℕ) (size : suc n ≡ s.pages) (low : 64 ≤ s.page
           (λ p m₂. (refl, refl, subst (Stands s.sum s.pages things c (after_with []) (left h₁)) (sym (all_left h₁ t₁ spot₁)) (stands_after [] (left h₁) t₁ (spot_left h₁ t₁ spot₁)), record { house = knows.house; pages_are = knows.pages_are }))))))
         where
           turned : turn s.sum w c (clone_at w.clones c) leave ≡ yes_with [] w.book w c (working [])
-          turned = ?
+          turned = ap (turned_left w c) clone_is
 
           left : List ℕ → List ℕ
           left h₁ = first_page h₁ ∷ last_page h₁ ∷ 0 ∷ drop 3 h₁
 
           spot_left : (h₁ t₁ : List ℕ) → Spot s.sum s.pages things tree h₁ t₁ → Spot s.sum s.pages things [] (first_page h₁ ∷ last_page h₁ ∷ 0 ∷ drop 3 h₁) t₁
-          spot_left h₁ t₁ spot₁ = ?
+          spot_left h₁ t₁ spot₁ = record { shelf = shelf_left s.sum s.pages h₁ t₁ tree spot₁.shelf; rises = spot₁.rises; slack = spot₁.slack }
 
           all_left : (h₁ t₁ : List ℕ) → (spot₁ : Spot s.sum s.pages things tree h₁ t₁) → published (left h₁) t₁ ≡ t₁
           all_left h₁ t₁ spot₁ = all_published [] (left h₁) t₁ (spot_left h₁ t₁ spot₁)
+
+      -- READ
+      module _ (p : List ℕ) (good : proper p ≡ true) (e : parsed text ≡ Some (read_file p)) (sp : spelled (read_file p) ≡ text) (ft : fits (read_file p) ≡ true) where
+        said : Said_path p m
+        said = path_said p m long (and_parts (good_path p) (all_bytes p) good).0
+
+        -- by what is found in work, whatever is shown and however it ends
+        reads_as : (f : List (List ℕ)) → found tree p ≡ f →
+            ((Stop : List ℕ → List ℕ → Rows → Type 0) (End : Control → List ℕ → List ℕ → List ℕ → ℕ → Rows → ℕ → Type 0) →
+            ((h₁ t₁ : List ℕ) → Spot s.sum s.pages things tree h₁ t₁ → Stop h₁ t₁ []) →
+            ((k₁ : Control) (ws₁ d m₁ h₁ t₁ : List ℕ) → Remembers s.pages c k₁ → Spot s.sum s.pages things tree h₁ t₁ → Desk h₁ ws₁ d m₁ → references ws₁ ≡ files_named t₁ (work_root h₁) →
+            (o : Option ℕ) → find_in p ws₁ ≡ o → each (bytes_at t₁) (listed o) ≡ f → Well s.sum n Stop End (opened k₁ m₁ o) h₁ t₁ (last_page h₁) []) →
+            Well s.sum n Stop End (control_hears s.sum k m text) h t (last_page h) [])
+        reads_as f is Stop End stop opens =
+            subst (λ (x : Asked Control). Well s.sum n Stop End x h t (last_page h) []) (sym (says m text (read_file p) long e))
+            (hears Stop End (hearing Read 0 no_sum k) (path_put p m) h t knows.pages_are said.long win spot slack stop
+            (λ v m₁ h₁ t₁ spot₁ desk room.
+            let k₁ : Control = at_phase Recalling (sweeping (hearing Read 0 no_sum k) v) in
+            loads Stop End k₁ (row_of (path_put p m)) (drop path_at (path_put p m)) m₁ h₁ t₁ [] desk spot₁
+            (λ q ws₁ m₂ desk₂ row names.
+            subst (λ (o : Option ℕ). Well s.sum n Stop End (opened (at_phase q k₁) m₂ o) h₁ t₁ (last_page h₁) [])
+            (find_by_key p ws₁ good ∙ sym (ap₂ (λ x y. reference_in (found (entries_of x) y)) desk₂.row (path_key_is h₁ ws₁ (drop path_at (path_put p m)) m₂ desk₂ ∙ said.key)))
+            (opens (at_phase q k₁) ws₁ (drop path_at (path_put p m)) m₂ h₁ t₁ (record { house = knows.house; pages_are = knows.pages_are }) spot₁ desk₂ names (find_in p ws₁) refl
+            (find_right (bytes_at t₁) ws₁ tree p row good ∙ is)))))
+
+        turned_read : (f : List (List ℕ)) → found tree p ≡ f →
+            turn s.sum w c (clone_at w.clones c) (read_file p) ≡ pick (none_of f) (no 3 w) (yes_with f w.book w c (clone_at w.clones c))
+        unfolding turn
+        turned_read f is =
+            ap (λ (x : Clone). pick (none_of (found x.work p)) (no 3 w) (yes_with (found x.work p) w.book w c (clone_at w.clones c))) clone_is
+            ∙ ap (λ (x : List (List ℕ)). pick (none_of x) (no 3 w) (yes_with x w.book w c (clone_at w.clones c))) is
+
+        reads : (f : List (List ℕ)) → found tree p ≡ f → Out
+        unfolding Out sheets StopStands EndStands
+        reads [] is =
+            comes_out h t m text (read_file p) sp ft refl (no 3 w) (turned_read [] is)
+            (reads_as [] is (Stop w []) (End w [] 3) (stops_before w []) opens)
+          where
+            opens : (k₁ : Control) (ws₁ d m₁ h₁ t₁ : List ℕ) → Remembers s.pages c k₁ → Spot s.sum s.pages things tree h₁ t₁ → Desk h₁ ws₁ d m₁ → references ws₁ ≡ files_named t₁ (work_root h₁) →
+                (o : Option ℕ) → find_in p ws₁ ≡ o → each (bytes_at t₁) (listed o) ≡ [] → Well s.sum n (Stop w []) (End w [] 3) (opened k₁ m₁ o) h₁ t₁ (last_page h₁) []
+            opens k₁ ws₁ d m₁ h₁ t₁ r spot₁ desk names None fe none = finishes (asked k₁ m₁ (Refuse 3)) h₁ t₁ (last_page h₁) [] 3 refl (omega arith) (ends_before [] 3 k₁ m₁ h₁ t₁ r spot₁)
+            opens k₁ ws₁ d m₁ h₁ t₁ r spot₁ desk names (Some q) fe none = absurd (omega (arith, ap length none))
+        reads (b ∷ bs) is =
+            comes_out h t m text (read_file p) sp ft refl (yes_with (b ∷ bs) w.book w c (clone_at w.clones c)) (turned_read (b ∷ bs) is)
+            (reads_as (b ∷ bs) is (Stop same_after (b ∷ bs)) (End same_after (b ∷ bs) 0) (stops_before same_after (b ∷ bs)) opens)
+          where
+            opens : (k₁ : Control) (ws₁ d m₁ h₁ t₁ : List ℕ) → Remembers s.pages c k₁ → Spot s.sum s.pages things tree h₁ t₁ → Desk h₁ ws₁ d m₁ → references ws₁ ≡ files_named t₁ (work_root h₁) →
+                (o : Option ℕ) → find_in p ws₁ ≡ o → each (bytes_at t₁) (listed o) ≡ b ∷ bs → Well s.sum n (Stop same_after (b ∷ bs)) (End same_after (b ∷ bs) 0) (opened k₁ m₁ o) h₁ t₁ (last_page h₁) []
+            opens k₁ ws₁ d m₁ h₁ t₁ r spot₁ desk names None fe some = absurd (omega (arith, ap length some))
+            opens k₁ ws₁ d m₁ h₁ t₁ r spot₁ desk names (Some q) fe some =
+                shows_file s.sum n (Stop same_after (b ∷ bs)) (End same_after (b ∷ bs) 0) k₁ ws₁ d m₁ h₁ t₁ (last_page h₁) q [] desk spot₁.shelf.whole (small_spot h₁ t₁ spot₁) (file_placed h₁ t₁ spot₁ q there)
+                (spot₁.shelf.files q there)
+                (([], append-nil (bytes_at t₁ q ∷ []) ∙ some), (w, inl refl, subst (Stands s.sum s.pages things c w h₁) (sym (all_published tree h₁ t₁ spot₁)) (stands_at h₁ t₁ spot₁)))
+                (λ z m₂. (some, refl, subst (Stands s.sum s.pages things c same_after h₁) (sym (all_published tree h₁ t₁ spot₁)) (stands_same h₁ t₁ spot₁), record { house = r.house; pages_are = r.pages_are }))
+              where
+                there : has (files_named t₁ (work_root h₁)) q ≡ true
+                there = ap (λ x. has x q) (sym names) ∙ find_references p ws₁ q fe
