@@ -2,7 +2,7 @@
 use Rattle.std.proofs.Common.{◌≡◌, ℕ, zero, suc, ◌+◌, ◌-◌, ◌*◌, ◌/◌, ◌<◌, ◌≤◌, min, Bool, true, false, ◌&&◌, eqb, ltb, leb, ◌⊎◌, List, [], ◌∷◌, ◌++◌, length, get_or, take, drop, Some, None, Option, sym, refl, ap, ◌∙◌, subst, subst₂, ap₂, inl, inr, ⊎_elim, arith, append-nil, length-append, length-drop}
 use Rattle.std.proofs.lemmas.Bool.{false≢true, eqb-true, le-ltb, lt-ltb, ltb-true, ltb-false, le-leb, leb-true, and_parts}
 use Rattle.std.proofs.lemmas.List.{take_all}
-use Rattle.pages.specs.Lists.{pick, each, has, none_of, zeros, added_up, distinct}
+use Rattle.pages.specs.Lists.{pick, each, flat, has, none_of, zeros, added_up, distinct}
 use Rattle.pages.specs.Bytes.{all_bytes}
 use Rattle.pages.specs.Words.{over, words}
 use Rattle.pages.proofs.WordLaws.{length_over, length_words}
@@ -12,7 +12,7 @@ use Rattle.pages.specs.Engine.{bulk_cells}
 use Rattle.pages.specs.Machine.{Asked, asked, capped}
 use Rattle.pages.specs.Tape.{first_page, last_page, published, Window, Does, finishes}
 use Rattle.pages.specs.declared.machine.Request.TheVariants.{Recall, Done, Refuse}
-use Rattle.pages.proofs.ListLaws.{pick_true, pick_false, pick_both, or_cases}
+use Rattle.pages.proofs.ListLaws.{pick_true, pick_false, pick_both, or_cases, length_each}
 use Rattle.objects.specs.Heap.{Live, root, named, Heap, Lives, Placed, units_at}
 use Rattle.objects.specs.Plan.{head_at}
 use Rattle.objects.specs.Room.{reserve, RingHasRoom}
@@ -20,14 +20,18 @@ use Rattle.objects.specs.Sweeping.{roots_of, Swept}
 use Rattle.objects.specs.declared.sweep.Sweep.{Sweep}
 use Rattle.objects.proofs.PartLaws.{parts_stay}
 use Rattle.objects.proofs.RoomLaws.{ring_has_room}
-use Rattle.trees.specs.Tree.{Tree, found}
+use Rattle.trees.specs.Tree.{Tree, found, mark, paths, both}
+use Rattle.trees.specs.Differ.{difference_from, answers, shown}
+use Rattle.trees.specs.declared.differences.Cursor.{Cursor}
+use Rattle.trees.specs.declared.differences.Difference.{Difference}
+use Rattle.trees.proofs.AnswerLaws.{differs_right}
 use Rattle.trees.specs.Row.{good_path, key_of, entries_of, find_in, reference_in, references}
 use Rattle.trees.specs.RowOf.{proper, weight_of, RowOf}
-use Rattle.trees.specs.RowPromises.{FindsRight, listed}
-use Rattle.trees.proofs.RowOfLaws.{finds_right}
+use Rattle.trees.specs.RowPromises.{FindsRight, DiffersRight, EmptyRight, Apart, listed}
+use Rattle.trees.proofs.RowOfLaws.{empty_right, finds_right}
 use Rattle.trees.proofs.RowParts.{find_references}
 use Rattle.history.specs.Book.{Sum}
-use Rattle.commands.specs.Command.{Command, spelled, fits, leave, read_file}
+use Rattle.commands.specs.Command.{Command, spelled, fits, leave, read_file, status}
 use Rattle.commands.specs.Parse.{parsed}
 use Rattle.house.specs.House.{Plain, Turn, turn, Clone, clone_at, set_clone, no, yes_with, with_work, tree_of, tip, ref_of}
 use Rattle.house.specs.Facts.{FineTree}
@@ -35,15 +39,15 @@ use Rattle.house.proofs.TurnLaws.{clone_at_same}
 use Rattle.house.specs.Promise.{Said, Allowed, KnownAllowed}
 use Rattle.house.specs.Simulation.{Setting}
 use Rattle.house.specs.OnTape.{StopStands, EndStands, Answered}
-use Rattle.house.specs.Control.{desk_end, row_of, path_at, head_word, at_phase, sweeping, again, controlling, control_hears, control_client, sheets, said_of, heard_of, hearing, no_sum, load, loaded, opened, publish, path_put, path_key, recalled, started, lays, tight}
+use Rattle.house.specs.Control.{desk_end, row_of, path_at, head_word, at_phase, sweeping, again, controlling, control_hears, control_client, sheets, said_of, heard_of, hearing, no_sum, load, loaded, compare, comparing, cursor, emptied, old_row_at, old_row_of, row_words, opened, publish, path_put, path_key, recalled, started, lays, tight}
 use Rattle.house.specs.Shelf.{bytes_at, Shelf, Stands, Simple, Remembers, working, work_root, files_named}
 use Rattle.house.specs.declared.control.Control.{Control}
 use Rattle.house.specs.declared.control.Phase.{Phase}
 use Rattle.house.specs.declared.control.Phase.TheVariants.{Recalling}
-use Rattle.house.proofs.DeskLaws.{Desk, head_word_is, path_key_is}
+use Rattle.house.proofs.DeskLaws.{Desk, desk_map, part_front, head_word_is, path_key_is}
 use Rattle.house.proofs.ShelfLaws.{head_long, root_live, file_live, lives_of, shelf_fits, shelf_swept}
 use Rattle.house.specs.declared.control.Task.TheVariants.{Write, Drop, Read, Status, Leave}
-use Rattle.house.proofs.Sheets.{Well, begins, recalls_head, loads_tree, shows_file, publishes_head}
+use Rattle.house.proofs.Sheets.{after, answers_by, Well, begins, recalls_head, empty_names, loads_tree, shows_file, compares, publishes_head}
 
 -- the ring has room for three reserves, and no reserve is large
 reserve_small : (pages : ℕ) → pages ≤ 1048576 → reserve pages ≤ 524288
@@ -78,6 +82,26 @@ find_by_key p ws good = pick_true (good_path p) (reference_in (found (entries_of
 find_right : (stands : ℕ → List ℕ) (ws : List ℕ) (t : Tree) (p : List ℕ) → RowOf stands ws t → proper p ≡ true → each stands (listed (find_in p ws)) ≡ found t p
 unfolding FindsRight
 find_right = finds_right
+
+-- differences are the marks of two trees, and no more of them are answered than are asked for
+differ_right : (stands : ℕ → List ℕ) (xs ys : List ℕ) (t u : Tree) (i : ℕ) → RowOf stands xs t → RowOf stands ys u → Apart stands xs ys → length t + length u ≤ i →
+    each (shown xs ys) (answers i xs ys (cursor 0 0)) ≡ flat (mark t u) (paths (both t u))
+unfolding DiffersRight
+differ_right = differs_right
+
+empty_right_row : (stands : ℕ → List ℕ) (rest : List ℕ) → RowOf stands (0 ∷ 0 ∷ rest) []
+unfolding EmptyRight
+empty_right_row stands rest = empty_right stands (0 ∷ 0 ∷ rest) (omega arith) refl refl
+
+answers_few : (i : ℕ) (xs ys : List ℕ) (c : Cursor) → length (answers i xs ys c) ≤ i
+unfolding answers after
+answers_few zero xs ys c = omega arith
+answers_few (suc i) xs ys c =
+    subst (λ l. length l ≤ suc i) (sym (answers_by i xs ys c (difference_from xs ys c) refl)) (go (difference_from xs ys c) (answers_few i xs ys))
+  where
+    go : (o : Option Difference) → ((d : Cursor) → length (answers i xs ys d) ≤ i) → length (after i xs ys o) ≤ suc i
+    go None few = omega arith
+    go (Some v) few = omega (arith, few v.next)
 
 -- A HEAD THAT NAMES NOTHING has an empty shelf
 nothing_live : (t : List ℕ) (r : ℕ) → Live t (zeros 8) r → ⊥
@@ -386,3 +410,68 @@ module _ (s : Setting) (n : ℕ) (size : suc n ≡ s.pages) (low : 64 ≤ s.page
               where
                 there : has (files_named t₁ (work_root h₁)) q ≡ true
                 there = ap (λ x. has x q) (sym names) ∙ find_references p ws₁ q fe
+
+      -- STATUS
+      module _ (e : parsed text ≡ Some status) (sp : spelled status ≡ text) where
+        differences : Rows
+        differences = flat (mark [] tree) (paths (both [] tree))
+
+        turned_status : turn s.sum w c (clone_at w.clones c) status ≡ yes_with (flat (mark [] tree) (paths (both [] tree))) w.book w c (clone_at w.clones c)
+        unfolding turn tree_of ref_of
+        turned_status =
+            ap (λ (x : Clone). yes_with (flat (mark (tree_of w.book (tip x)) x.work) (paths (both (tree_of w.book (tip x)) x.work)) ++ each (λ q. 4 ∷ q) x.unsettled) w.book w c (clone_at w.clones c)) clone_is
+            ∙ ap (λ (x : Rows). yes_with x w.book w c (clone_at w.clones c)) (append-nil (flat (mark [] tree) (paths (both [] tree))))
+
+        -- the row of the empty tree, in place of the map
+        old_row : List ℕ → List ℕ
+        old_row m₁ = 0 ∷ 0 ∷ drop (0 + 2) (old_row_of m₁)
+
+        shows : (q : Phase) (k₁ : Control) (ws₁ m₁ h₁ t₁ : List ℕ) → Remembers s.pages c k₁ → Spot s.sum s.pages things tree h₁ t₁ → Desk h₁ ws₁ (drop path_at m) m₁ → RowOf (bytes_at t₁) ws₁ tree →
+            Well s.sum n (Stop same_after (flat (mark [] tree) (paths (both [] tree)))) (End same_after (flat (mark [] tree) (paths (both [] tree))) 0)
+            (compare (at_phase q (comparing (cursor 0 0) k₁)) (emptied old_row_at m₁)) h₁ t₁ (last_page h₁) []
+        unfolding StopStands EndStands
+        shows q k₁ ws₁ m₁ h₁ t₁ r spot₁ desk row =
+            compares s.sum n (Stop same_after rows) (End same_after rows 0) k₁ ws₁ os (drop path_at m) h₁ t₁ (last_page h₁) rows
+            (λ a b is. ((b, is), (w, inl refl, subst (Stands s.sum s.pages things c w h₁) (sym (all_published tree h₁ t₁ spot₁)) (stands_at h₁ t₁ spot₁))))
+            (λ z x m₂. (refl, refl, subst (Stands s.sum s.pages things c same_after h₁) (sym (all_published tree h₁ t₁ spot₁)) (stands_same h₁ t₁ spot₁), record { house = r.house; pages_are = r.pages_are }))
+            (length tree) q (cursor 0 0) (emptied old_row_at m₁) [] few (all_of (suc (length tree)) (omega arith)) (desk_map h₁ ws₁ (drop path_at m) m₁ (0 ∷ 0 ∷ []) old_row_at (omega arith) (omega arith) desk)
+            (part_front old_row_at row_words (0 ∷ 0 ∷ []) m₁ (omega arith) (omega (arith, desk.long)))
+          where
+            rows : Rows
+            rows = flat (mark [] tree) (paths (both [] tree))
+
+            os : List ℕ
+            os = 0 ∷ 0 ∷ drop (0 + 2) (old_row_of m₁)
+
+            all_of : (i : ℕ) → length tree ≤ i → each (shown (0 ∷ 0 ∷ drop (0 + 2) (old_row_of m₁)) ws₁) (answers i (0 ∷ 0 ∷ drop (0 + 2) (old_row_of m₁)) ws₁ (cursor 0 0)) ≡ flat (mark [] tree) (paths (both [] tree))
+            all_of i enough =
+                differ_right (bytes_at t₁) os ws₁ [] tree i (empty_right_row (bytes_at t₁) (drop (0 + 2) (old_row_of m₁))) row
+                (λ x y a b same_bytes. absurd (false≢true (ap (λ xs. has xs x) (sym (empty_names (drop (0 + 2) (old_row_of m₁)))) ∙ a))) (omega arith)
+
+            few : length (answers (suc (length tree)) (0 ∷ 0 ∷ drop (0 + 2) (old_row_of m₁)) ws₁ (cursor 0 0)) ≤ length tree
+            few =
+                omega (
+                  arith,
+                  length_each (shown os ws₁) (answers (suc (length tree)) os ws₁ (cursor 0 0)),
+                  length_each (shown os ws₁) (answers (length tree) os ws₁ (cursor 0 0)),
+                  ap length (all_of (suc (length tree)) (omega arith)),
+                  ap length (all_of (length tree) (omega arith)),
+                  answers_few (length tree) os ws₁ (cursor 0 0),
+                )
+
+        tells : Out
+        unfolding Out fits sheets
+        tells =
+            comes_out h t m text status sp refl refl (yes_with (flat (mark [] tree) (paths (both [] tree))) w.book w c (clone_at w.clones c)) turned_status
+            (subst (λ (x : Asked Control). Well s.sum n Stop₁ End₁ x h t (last_page h) []) (sym (says m text status long e))
+            (hears Stop₁ End₁ (hearing Status 0 no_sum k) m h t knows.pages_are long win spot slack (stops_before same_after (flat (mark [] tree) (paths (both [] tree))))
+            (λ v m₁ h₁ t₁ spot₁ desk room.
+            let k₁ : Control = at_phase Recalling (sweeping (hearing Status 0 no_sum k) v) in
+            loads Stop₁ End₁ k₁ (row_of m) (drop path_at m) m₁ h₁ t₁ [] desk spot₁
+            (λ q ws₁ m₂ desk₂ row names. shows q k₁ ws₁ m₂ h₁ t₁ (record { house = knows.house; pages_are = knows.pages_are }) spot₁ desk₂ row))))
+          where
+            Stop₁ : List ℕ → List ℕ → Rows → Type 0
+            Stop₁ = Stop same_after (flat (mark [] tree) (paths (both [] tree)))
+
+            End₁ : Control → List ℕ → List ℕ → List ℕ → ℕ → Rows → ℕ → Type 0
+            End₁ = End same_after (flat (mark [] tree) (paths (both [] tree))) 0

@@ -90,10 +90,10 @@ shown_fits xs ys (Changed j) = (omega (arith, (path_fits (take 9 (drop (10 * j +
 shown_fits xs ys (Gone i) = (omega (arith, (path_fits (take 9 (drop (10 * i + 2) xs))).0), (path_fits (take 9 (drop (10 * i + 2) xs))).1)
 
 -- the answers, by the first one
-after : ℕ → List ℕ → List ℕ → Option Difference → List Place
+unfoldable pub after : ℕ → List ℕ → List ℕ → Option Difference → List Place
 after i xs ys o = elim o [ None ↦ [] | Some v ↦ v.place ∷ answers i xs ys v.next ]
 
-answers_by : (i : ℕ) (xs ys : List ℕ) (c : Cursor) (o : Option Difference) → difference_from xs ys c ≡ o → answers (suc i) xs ys c ≡ after i xs ys o
+pub answers_by : (i : ℕ) (xs ys : List ℕ) (c : Cursor) (o : Option Difference) → difference_from xs ys c ≡ o → answers (suc i) xs ys c ≡ after i xs ys o
 unfolding answers after
 answers_by i xs ys c o e = ap (after i xs ys) e
 
@@ -114,7 +114,7 @@ abbrev pub weight_said : List ℕ → ℕ
 weight_said d = capped (64 + get_or d 8 0)
 
 -- a row that says that it has no files names none
-empty_names : (rest : List ℕ) → references (0 ∷ 0 ∷ rest) ≡ []
+pub empty_names : (rest : List ℕ) → references (0 ∷ 0 ∷ rest) ≡ []
 unfolding cut
 empty_names rest = let e : held (0 ∷ 0 ∷ rest) ≡ 0 = omega arith in ap (λ i. each reference_of (cut i rest)) e
 
