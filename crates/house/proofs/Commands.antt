@@ -1,8 +1,8 @@
 -- Each command of the house that keeps sheets in work, on its tape: what it shows, how it ends, and what the tape stands for then. Assumes nothing.
-use Rattle.std.proofs.Common.{◌≡◌, ℕ, zero, suc, ◌+◌, ◌-◌, ◌*◌, ◌/◌, ◌<◌, ◌≤◌, min, Bool, true, false, ◌&&◌, eqb, ltb, leb, ◌⊎◌, List, [], ◌∷◌, ◌++◌, length, get_or, take, drop, Some, None, Option, sym, refl, ap, ◌∙◌, subst, subst₂, ap₂, inl, inr, ⊎_elim, arith, append-nil, length-append, length-drop}
+use Rattle.std.proofs.Common.{◌≡◌, ℕ, zero, suc, ◌+◌, ◌-◌, ◌*◌, ◌/◌, ◌<◌, ◌≤◌, min, Bool, true, false, not, ◌&&◌, eqb, ltb, leb, ◌⊎◌, List, [], ◌∷◌, ◌++◌, length, get_or, take, drop, Some, None, Option, sym, refl, ap, ◌∙◌, subst, subst₂, ap₂, inl, inr, ⊎_elim, arith, append-nil, length-append, length-drop}
 use Rattle.std.proofs.lemmas.Bool.{false≢true, eqb-true, le-ltb, lt-ltb, ltb-true, ltb-false, le-leb, leb-true, and_parts}
-use Rattle.std.proofs.lemmas.List.{take_all}
-use Rattle.pages.specs.Lists.{pick, each, flat, has, none_of, zeros, added_up, distinct}
+use Rattle.std.proofs.lemmas.List.{take_all, get_or-take, get_or-drop}
+use Rattle.pages.specs.Lists.{pick, each, flat, has, same, none_of, zeros, added_up, distinct}
 use Rattle.pages.specs.Bytes.{all_bytes}
 use Rattle.pages.specs.Words.{over, words}
 use Rattle.pages.proofs.WordLaws.{length_over, length_words}
@@ -12,7 +12,7 @@ use Rattle.pages.specs.Engine.{bulk_cells}
 use Rattle.pages.specs.Machine.{Asked, asked, capped}
 use Rattle.pages.specs.Tape.{first_page, last_page, published, Window, Does, finishes}
 use Rattle.pages.specs.declared.machine.Request.TheVariants.{Recall, Done, Refuse}
-use Rattle.pages.proofs.ListLaws.{pick_true, pick_false, pick_both, or_cases, length_each}
+use Rattle.pages.proofs.ListLaws.{pick_true, pick_false, In, pick_both, or_cases, length_each, same_tells, added_up_within, once_distinct, distinct_in, in_distinct}
 use Rattle.objects.specs.Heap.{Live, root, named, Heap, Lives, Placed, units_at}
 use Rattle.objects.specs.Plan.{head_at}
 use Rattle.objects.specs.Room.{reserve, RingHasRoom}
@@ -20,34 +20,38 @@ use Rattle.objects.specs.Sweeping.{roots_of, Swept}
 use Rattle.objects.specs.declared.sweep.Sweep.{Sweep}
 use Rattle.objects.proofs.PartLaws.{parts_stay}
 use Rattle.objects.proofs.RoomLaws.{ring_has_room}
-use Rattle.trees.specs.Tree.{Tree, found, mark, paths, both}
+use Rattle.trees.specs.Tree.{Tree, found, without, mark, paths, both}
 use Rattle.trees.specs.Differ.{difference_from, answers, shown}
 use Rattle.trees.specs.declared.differences.Cursor.{Cursor}
 use Rattle.trees.specs.declared.differences.Difference.{Difference}
 use Rattle.trees.proofs.AnswerLaws.{differs_right}
-use Rattle.trees.specs.Row.{good_path, key_of, entries_of, find_in, reference_in, references}
+use Rattle.trees.specs.Row.{good_path, key_of, entries_of, find_in, has_key, take_key, take_from, taken_from, reference_in, references}
+use Rattle.trees.specs.Packed.{squeezed}
+use Rattle.trees.proofs.ObjectLaws.{stored_bytes}
+use Rattle.trees.proofs.BackAgain.{last_word}
 use Rattle.trees.specs.RowOf.{proper, weight_of, RowOf}
-use Rattle.trees.specs.RowPromises.{FindsRight, DiffersRight, EmptyRight, Apart, listed}
-use Rattle.trees.proofs.RowOfLaws.{empty_right, finds_right}
-use Rattle.trees.proofs.RowParts.{find_references}
+use Rattle.trees.specs.RowPromises.{FindsRight, TakesRight, DiffersRight, EmptyRight, Apart, listed}
+use Rattle.trees.proofs.RowOfLaws.{empty_right, finds_right, takes_right, weight_without}
+use Rattle.trees.proofs.RowParts.{find_references, length_take_key, take_references}
 use Rattle.history.specs.Book.{Sum}
-use Rattle.commands.specs.Command.{Command, spelled, fits, leave, read_file, status}
+use Rattle.commands.specs.Command.{Command, spelled, fits, leave, drop_file, read_file, status}
 use Rattle.commands.specs.Parse.{parsed}
-use Rattle.house.specs.House.{Plain, Turn, turn, Clone, clone_at, set_clone, no, yes_with, with_work, tree_of, tip, ref_of}
+use Rattle.house.specs.House.{Plain, Turn, turn, Clone, clone_at, set_clone, no, yes_with, with_work, drop_path, tree_of, tip, ref_of}
 use Rattle.house.specs.Facts.{FineTree}
 use Rattle.house.proofs.TurnLaws.{clone_at_same}
 use Rattle.house.specs.Promise.{Said, Allowed, KnownAllowed}
 use Rattle.house.specs.Simulation.{Setting}
 use Rattle.house.specs.OnTape.{StopStands, EndStands, Answered}
-use Rattle.house.specs.Control.{desk_end, row_of, path_at, head_word, at_phase, sweeping, again, controlling, control_hears, control_client, sheets, said_of, heard_of, hearing, no_sum, load, loaded, compare, comparing, cursor, emptied, old_row_at, old_row_of, row_words, opened, publish, path_put, path_key, recalled, started, lays, tight}
-use Rattle.house.specs.Shelf.{bytes_at, Shelf, Stands, Simple, Remembers, working, work_root, files_named}
+use Rattle.house.specs.Control.{desk_end, row_of, path_at, head_word, at_phase, sweeping, again, controlling, control_hears, control_client, sheets, said_of, heard_of, hearing, no_sum, load, loaded, compare, comparing, cursor, emptied, old_row_at, old_row_of, row_words, opened, publish, pages_of, lay_tree, with_row, entry_weight, path_put, path_key, recalled, started, lays, tight}
+use Rattle.house.specs.Shelf.{bytes_at, FileAt, sheets_weight, Shelf, Stands, Simple, Remembers, working, work_root, files_named}
 use Rattle.house.specs.declared.control.Control.{Control}
 use Rattle.house.specs.declared.control.Phase.{Phase}
 use Rattle.house.specs.declared.control.Phase.TheVariants.{Recalling}
-use Rattle.house.proofs.DeskLaws.{Desk, desk_map, part_front, head_word_is, path_key_is}
+use Rattle.house.proofs.DeskLaws.{Desk, desk_map, desk_row, row_long, part_front, head_word_is, path_key_is}
+use Rattle.house.proofs.NewShelf.{shelf_over}
 use Rattle.house.proofs.ShelfLaws.{head_long, root_live, file_live, lives_of, shelf_fits, shelf_swept}
 use Rattle.house.specs.declared.control.Task.TheVariants.{Write, Drop, Read, Status, Leave}
-use Rattle.house.proofs.Sheets.{after, answers_by, Well, begins, recalls_head, empty_names, loads_tree, shows_file, compares, publishes_head}
+use Rattle.house.proofs.Sheets.{after, answers_by, Well, begins, recalls_head, empty_names, loads_tree, shows_file, compares, lays_tree, publishes_head}
 
 -- the ring has room for three reserves, and no reserve is large
 reserve_small : (pages : ℕ) → pages ≤ 1048576 → reserve pages ≤ 524288
@@ -73,6 +77,16 @@ path_said p m l good =
   where
     is : path_put p m ≡ over path_at (key_of p) m
     is = pick_true (good_path p) (over path_at (key_of p) m) m good
+
+-- what an entry weighs at a path that was put aside
+weight_aside : (p m h ws m₁ : List ℕ) → Said_path p m → proper p ≡ true → Desk h ws (drop path_at (path_put p m)) m₁ → entry_weight m₁ ≡ 64 + length p
+weight_aside p m h ws m₁ said good desk =
+    ap (λ x. capped (64 + x)) word ∙ omega (arith, leb-true (length p) 64 (and_parts (leb 1 (length p)) (leb (length p) 64) (and_parts (good_path p) (all_bytes p) good).0).1)
+  where
+    word : get_or m₁ 229610 0 ≡ length p
+    word =
+        sym (get_or-drop path_at m₁ 8 0) ∙ ap (λ x. get_or x 8 0) desk.said ∙ sym (get_or-take 9 (drop path_at (path_put p m)) 8 0 (omega arith)) ∙ ap (λ x. get_or x 8 0) said.key
+        ∙ last_word p
 
 -- a key is found as its path is
 find_by_key : (p ws : List ℕ) → proper p ≡ true → find_in p ws ≡ reference_in (found (entries_of ws) (key_of p))
@@ -102,6 +116,37 @@ answers_few (suc i) xs ys c =
     go : (o : Option Difference) → ((d : Cursor) → length (answers i xs ys d) ≤ i) → length (after i xs ys o) ≤ suc i
     go None few = omega arith
     go (Some v) few = omega (arith, few v.next)
+
+-- LESS IN WORK weighs no more
+bytes_without : (p : List ℕ) (t : Tree) (b : List ℕ) → In b (each (λ f. f.bytes) (without p t)) → In b (each (λ f. f.bytes) t)
+unfolding without
+bytes_without p [] b i = i
+bytes_without p (f ∷ fs) b i =
+    pick_both (λ (x : Tree). In b (each (λ g. g.bytes) x) → In b (each (λ g. g.bytes) (f ∷ fs))) (same p f.path) _ _ (λ y j. inr j)
+    (λ m j. ⊎_elim inl (λ q. inr (bytes_without p fs b q)) j) i
+
+weighs_less : (p : List ℕ) (t : Tree) → none_of (found t p) ≡ false → sheets_weight (without p t) ≤ sheets_weight t
+weighs_less p t some =
+    let files : added_up (λ bs. 64 + length bs) (distinct (each (λ f. f.bytes) (without p t))) ≤ added_up (λ bs. 64 + length bs) (distinct (each (λ f. f.bytes) t)) =
+    added_up_within same same_tells (λ bs. 64 + length bs) (distinct (each (λ f. f.bytes) (without p t))) (distinct (each (λ f. f.bytes) t))
+    (once_distinct (each (λ f. f.bytes) (without p t))) (once_distinct (each (λ f. f.bytes) t))
+    (λ b i. in_distinct (each (λ f. f.bytes) t) b (bytes_without p t b (distinct_in (each (λ f. f.bytes) (without p t)) b i))) in
+    omega (arith, files, weight_without p t some)
+
+-- a tree that may be kept takes no more pages than a reserve has
+tree_pages : (stands : ℕ → List ℕ) (pages : ℕ) (ws : List ℕ) (t : Tree) → 64 ≤ pages → RowOf stands ws t → weight_of t ≤ 128 * pages → pages_of (length (squeezed ws)) ≤ reserve pages
+tree_pages stands pages ws t low row light = let b : 8 * length (squeezed ws) + 41 * length t ≤ weight_of t + 24 = stored_bytes stands ws t row in omega (arith, b, light)
+
+take_row : (stands : ℕ → List ℕ) (ws p : List ℕ) (t : Tree) → RowOf stands ws t → proper p ≡ true →
+    (has_key (key_of p) ws ≡ not (none_of (found t p))) × RowOf stands (take_key (key_of p) (64 + length p) ws) (without p t)
+unfolding TakesRight taken_from take_from
+take_row stands ws p t row good = (
+  ap (λ b. b && has_key (key_of p) ws) (sym path) ∙ (takes_right stands ws t p row good).0,
+  subst (λ x. RowOf stands x (without p t)) (pick_true (good_path p) (take_key (key_of p) (64 + length p) ws) ws path) (takes_right stands ws t p row good).1,
+)
+  where
+    path : good_path p ≡ true
+    path = (and_parts (good_path p) (all_bytes p) good).0
 
 -- A HEAD THAT NAMES NOTHING has an empty shelf
 nothing_live : (t : List ℕ) (r : ℕ) → Live t (zeros 8) r → ⊥
@@ -354,6 +399,31 @@ module _ (s : Setting) (n : ℕ) (size : suc n ≡ s.pages) (low : 64 ≤ s.page
           all_left : (h₁ t₁ : List ℕ) → (spot₁ : Spot s.sum s.pages things tree h₁ t₁) → published (left h₁) t₁ ≡ t₁
           all_left h₁ t₁ spot₁ = all_published [] (left h₁) t₁ (spot_left h₁ t₁ spot₁)
 
+      -- A TREE IS LAID AND PUBLISHED as the tree in work
+      lays_work : (u : Tree) (k₁ : Control) (m₁ ws₁ d h₁ t₁ rs : List ℕ) (page : ℕ) → Remembers s.pages c k₁ → Desk h₁ ws₁ d m₁ → drop 3 h₁ ≡ zeros 29 →
+          length t₁ ≡ 64 * page → first_page h₁ ≤ page → Heap t₁ (8 * first_page h₁) (8 * page) rs → ((r : ℕ) → has (references ws₁) r ≡ true → Live t₁ rs r) →
+          ((r : ℕ) → has (references ws₁) r ≡ true → FileAt s.sum t₁ r) → RowOf (bytes_at t₁) ws₁ u →
+          ((r q : ℕ) → has (references ws₁) r ≡ true → has (references ws₁) q ≡ true → bytes_at t₁ r ≡ bytes_at t₁ q → r ≡ q) →
+          sheets_weight u ≤ 128 * s.pages → page + pages_of (length (squeezed ws₁)) + reserve s.pages ≤ first_page h₁ + n →
+          page + pages_of (length (squeezed ws₁)) + 2097152 * things ≤ 18014398509481984 →
+          Well s.sum n (Stop (after_with u) []) (End (after_with u) [] 0) (lay_tree k₁ m₁ page) h₁ t₁ page []
+      unfolding StopStands EndStands
+      lays_work u k₁ m₁ ws₁ d h₁ t₁ rs page r desk others tl from heap live files row once light room bound =
+          lays_tree s.sum n (Stop (after_with u) []) (End (after_with u) [] 0) k₁ ws₁ d m₁ h₁ t₁ page [] desk (head_long h₁ others) from (omega (arith, room)) (omega (arith, bound))
+          (λ x xl front.
+          ((([], refl), (after_with u, inr refl, stands x xl front)), λ p pg rt m₂. (refl, refl, stands x xl front, record { house = r.house; pages_are = r.pages_are })))
+        where
+          new_head : List ℕ
+          new_head = first_page h₁ ∷ (page + pages_of (length (squeezed ws₁))) ∷ (8 * page + 1) ∷ drop 3 h₁
+
+          stands : (x : List ℕ) → length x ≡ 64 * pages_of (length (squeezed ws₁)) → take (length (squeezed ws₁)) x ≡ squeezed ws₁ →
+              Stands s.sum s.pages things c (after_with u) new_head (published new_head (t₁ ++ x))
+          stands x xl front =
+              let shelf : Shelf s.sum s.pages new_head (t₁ ++ x) u =
+              shelf_over s.sum s.pages page h₁ t₁ ws₁ rs x u tl (omega (arith, from)) heap live files row once xl front light (omega (arith, room, size)) others in
+              subst (Stands s.sum s.pages things c (after_with u) new_head) (sym (take_all (64 * last_page new_head) (t₁ ++ x) (omega (arith, shelf.whole))))
+              (record { tree = u; clone = clone_at_same w.clones c (working u) lt; shelf = shelf; bounded = bound })
+
       -- READ
       module _ (p : List ℕ) (good : proper p ≡ true) (e : parsed text ≡ Some (read_file p)) (sp : spelled (read_file p) ≡ text) (ft : fits (read_file p) ≡ true) where
         said : Said_path p m
@@ -475,3 +545,89 @@ module _ (s : Setting) (n : ℕ) (size : suc n ≡ s.pages) (low : 64 ≤ s.page
 
             End₁ : Control → List ℕ → List ℕ → List ℕ → ℕ → Rows → ℕ → Type 0
             End₁ = End same_after (flat (mark [] tree) (paths (both [] tree))) 0
+
+      -- DROP
+      module _ (p : List ℕ) (good : proper p ≡ true) (e : parsed text ≡ Some (drop_file p)) (sp : spelled (drop_file p) ≡ text) (ft : fits (drop_file p) ≡ true) where
+        put_aside : Said_path p m
+        put_aside = path_said p m long (and_parts (good_path p) (all_bytes p) good).0
+
+        d : List ℕ
+        d = drop path_at (path_put p m)
+
+        -- however it ends, if what comes after loading goes well
+        drops_as : (Stop : List ℕ → List ℕ → Rows → Type 0) (End : Control → List ℕ → List ℕ → List ℕ → ℕ → Rows → ℕ → Type 0) →
+            ((h₁ t₁ : List ℕ) → Spot s.sum s.pages things tree h₁ t₁ → Stop h₁ t₁ []) →
+            ((k₁ : Control) (ws₁ m₁ h₁ t₁ : List ℕ) → Remembers s.pages c k₁ → Spot s.sum s.pages things tree h₁ t₁ → Desk h₁ ws₁ (drop path_at (path_put p m)) m₁ → RowOf (bytes_at t₁) ws₁ tree →
+            references ws₁ ≡ files_named t₁ (work_root h₁) → 2 * reserve s.pages + (last_page h₁ - first_page h₁) ≤ n → Well s.sum n Stop End (loaded k₁ m₁ Drop) h₁ t₁ (last_page h₁) []) →
+            Well s.sum n Stop End (control_hears s.sum k m text) h t (last_page h) []
+        drops_as Stop End stop on =
+            subst (λ (x : Asked Control). Well s.sum n Stop End x h t (last_page h) []) (sym (says m text (drop_file p) long e))
+            (hears Stop End (hearing Drop 0 no_sum k) (path_put p m) h t knows.pages_are put_aside.long win spot slack stop
+            (λ v m₁ h₁ t₁ spot₁ desk room.
+            let k₁ : Control = at_phase Recalling (sweeping (hearing Drop 0 no_sum k) v) in
+            loads Stop End k₁ (row_of (path_put p m)) (drop path_at (path_put p m)) m₁ h₁ t₁ [] desk spot₁
+            (λ q ws₁ m₂ desk₂ row names. on (at_phase q k₁) ws₁ m₂ h₁ t₁ (record { house = knows.house; pages_are = knows.pages_are }) spot₁ desk₂ row names (room refl))))
+
+        turned_drop : (f : List (List ℕ)) → found tree p ≡ f →
+            turn s.sum w c (clone_at w.clones c) (drop_file p) ≡ pick (none_of f) (no 3 w) (yes_with [] w.book w c (working (without p tree)))
+        unfolding turn
+        turned_drop f is =
+            ap (λ (x : Clone). pick (none_of (found x.work p)) (no 3 w) (yes_with [] w.book w c (with_work x (without p x.work) x.joining (drop_path p x.unsettled)))) clone_is
+            ∙ ap (λ (x : List (List ℕ)). pick (none_of x) (no 3 w) (yes_with [] w.book w c (working (without p tree)))) is
+
+        -- whether it is there, in the row
+        there : (ws₁ m₁ h₁ t₁ : List ℕ) (f : List (List ℕ)) → found tree p ≡ f → Desk h₁ ws₁ (drop path_at (path_put p m)) m₁ → RowOf (bytes_at t₁) ws₁ tree → has_key (path_key m₁) (row_of m₁) ≡ not (none_of f)
+        there ws₁ m₁ h₁ t₁ f is desk row =
+            ap₂ has_key (path_key_is h₁ ws₁ (drop path_at (path_put p m)) m₁ desk ∙ put_aside.key) desk.row ∙ (take_row (bytes_at t₁) ws₁ p tree row good).0
+            ∙ ap (λ x. not (none_of x)) is
+
+        drops : (f : List (List ℕ)) → found tree p ≡ f → Out
+        unfolding Out sheets
+        drops [] is =
+            comes_out h t m text (drop_file p) sp ft refl (no 3 w) (turned_drop [] is)
+            (drops_as (Stop w []) (End w [] 3) (stops_before w [])
+            (λ k₁ ws₁ m₁ h₁ t₁ r spot₁ desk row names room.
+            subst (λ (x : Asked Control). Well s.sum n (Stop w []) (End w [] 3) x h₁ t₁ (last_page h₁) []) (sym (pick_false (has_key (path_key m₁) (row_of m₁)) _ _ (there ws₁ m₁ h₁ t₁ [] is desk row)))
+            (finishes (asked k₁ m₁ (Refuse 3)) h₁ t₁ (last_page h₁) [] 3 refl (omega arith) (ends_before [] 3 k₁ m₁ h₁ t₁ r spot₁))))
+        drops (b ∷ bs) is =
+            comes_out h t m text (drop_file p) sp ft refl (yes_with [] w.book w c (working (without p tree))) (turned_drop (b ∷ bs) is)
+            (drops_as Stop₁ End₁ (stops_before (after_with (without p tree)) [])
+            (λ k₁ ws₁ m₁ h₁ t₁ r spot₁ desk row names room.
+            subst (λ (x : Asked Control). Well s.sum n Stop₁ End₁ x h₁ t₁ (last_page h₁) []) (sym (pick_true (has_key (path_key m₁) (row_of m₁)) _ _ (there ws₁ m₁ h₁ t₁ (b ∷ bs) is desk row)))
+            (on k₁ ws₁ m₁ h₁ t₁ r spot₁ desk row names room)))
+          where
+            Stop₁ : List ℕ → List ℕ → Rows → Type 0
+            Stop₁ = Stop (after_with (without p tree)) []
+
+            End₁ : Control → List ℕ → List ℕ → List ℕ → ℕ → Rows → ℕ → Type 0
+            End₁ = End (after_with (without p tree)) [] 0
+
+            light : sheets_weight (without p tree) ≤ 128 * s.pages
+            light = omega (arith, weighs_less p tree (ap none_of is), spot.shelf.weight)
+
+            on : (k₁ : Control) (ws₁ m₁ h₁ t₁ : List ℕ) → Remembers s.pages c k₁ → Spot s.sum s.pages things tree h₁ t₁ → Desk h₁ ws₁ (drop path_at (path_put p m)) m₁ → RowOf (bytes_at t₁) ws₁ tree →
+                references ws₁ ≡ files_named t₁ (work_root h₁) → 2 * reserve s.pages + (last_page h₁ - first_page h₁) ≤ n →
+                Well s.sum n Stop₁ End₁ (lay_tree k₁ (with_row (take_key (path_key m₁) (entry_weight m₁) (row_of m₁)) m₁) (head_word m₁ 1)) h₁ t₁ (last_page h₁) []
+            on k₁ ws₁ m₁ h₁ t₁ r spot₁ desk row names room =
+                subst₂ (λ x i. Well s.sum n Stop₁ End₁ (lay_tree k₁ (with_row x m₁) i) h₁ t₁ (last_page h₁) []) (sym taken) (sym (head_word_is h₁ ws₁ (drop path_at (path_put p m)) m₁ 1 (omega arith) desk))
+                (lays_work (without p tree) k₁ (with_row ws₂ m₁) ws₂ (drop path_at (path_put p m)) h₁ t₁ (roots_of h₁) (last_page h₁) r
+                (desk_row h₁ ws₁ ws₂ (drop path_at (path_put p m)) m₁ (length_take_key (key_of p) ws₁ (64 + length p) ∙ row_long h₁ ws₁ (drop path_at (path_put p m)) m₁ desk) desk)
+                spot₁.shelf.others spot₁.shelf.whole spot₁.rises spot₁.shelf.heap (λ q i. file_live s.sum s.pages h₁ t₁ tree spot₁.shelf q (was q i)) (λ q i. spot₁.shelf.files q (was q i)) row₂
+                (λ a q i j. spot₁.shelf.once a q (was a i) (was q j)) light (omega (arith, few_pages, room, spot₁.rises)) (omega (arith, few_pages, reserve_small s.pages most, spot₁.slack)))
+              where
+                ws₂ : List ℕ
+                ws₂ = take_key (key_of p) (64 + length p) ws₁
+
+                taken : take_key (path_key m₁) (entry_weight m₁) (row_of m₁) ≡ take_key (key_of p) (64 + length p) ws₁
+                taken =
+                    ap₂ (λ x y. take_key x (entry_weight m₁) y) (path_key_is h₁ ws₁ (drop path_at (path_put p m)) m₁ desk ∙ put_aside.key) desk.row
+                    ∙ ap (λ i. take_key (key_of p) i ws₁) (weight_aside p m h₁ ws₁ m₁ put_aside good desk)
+
+                row₂ : RowOf (bytes_at t₁) (take_key (key_of p) (64 + length p) ws₁) (without p tree)
+                row₂ = (take_row (bytes_at t₁) ws₁ p tree row good).1
+
+                was : (q : ℕ) → has (references (take_key (key_of p) (64 + length p) ws₁)) q ≡ true → has (files_named t₁ (work_root h₁)) q ≡ true
+                was q i = ap (λ x. has x q) (sym names) ∙ take_references (key_of p) ws₁ (64 + length p) q i
+
+                few_pages : pages_of (length (squeezed (take_key (key_of p) (64 + length p) ws₁))) ≤ reserve s.pages
+                few_pages = tree_pages (bytes_at t₁) s.pages ws₂ (without p tree) low row₂ (omega (arith, light))
