@@ -1,7 +1,7 @@
 -- Each command of the house that keeps sheets in work, on its tape: what it shows, how it ends, and what the tape stands for then. Assumes nothing.
 use Rattle.std.proofs.Common.{◌≡◌, ℕ, zero, suc, ◌+◌, ◌-◌, ◌*◌, ◌/◌, ◌<◌, ◌≤◌, min, Bool, true, false, not, ◌&&◌, eqb, ltb, leb, ◌⊎◌, List, [], ◌∷◌, ◌++◌, length, get_or, take, drop, Some, None, Option, sym, refl, ap, ◌∙◌, subst, subst₂, ap₂, inl, inr, ⊎_elim, arith, append-nil, length-append, length-drop}
 use Rattle.std.proofs.lemmas.Bool.{false≢true, eqb-true, le-ltb, lt-ltb, ltb-true, ltb-false, le-leb, leb-true, and_parts}
-use Rattle.std.proofs.lemmas.List.{take_all, get_or-take, get_or-drop}
+use Rattle.std.proofs.lemmas.List.{take_all, get_or-take, get_or-drop, drop-drop}
 use Rattle.pages.specs.Lists.{pick, each, flat, has, same, none_of, zeros, added_up, distinct}
 use Rattle.pages.specs.Bytes.{all_bytes}
 use Rattle.pages.specs.Words.{over, words}
@@ -15,6 +15,8 @@ use Rattle.pages.specs.declared.machine.Request.TheVariants.{Recall, Done, Refus
 use Rattle.pages.proofs.ListLaws.{pick_true, pick_false, In, pick_both, or_cases, length_each, same_tells, added_up_within, once_distinct, distinct_in, in_distinct}
 use Rattle.objects.specs.Heap.{Live, root, named, Heap, Lives, Placed, units_at}
 use Rattle.objects.specs.Plan.{head_at}
+use Rattle.objects.specs.Layouts.{words_for, packed_bytes, bytes_put}
+use Rattle.objects.proofs.LayoutLaws.{put_all}
 use Rattle.objects.specs.Room.{reserve, RingHasRoom}
 use Rattle.objects.specs.Sweeping.{roots_of, Swept}
 use Rattle.objects.specs.declared.sweep.Sweep.{Sweep}
@@ -42,7 +44,7 @@ use Rattle.house.proofs.TurnLaws.{clone_at_same}
 use Rattle.house.specs.Promise.{Said, Allowed, KnownAllowed}
 use Rattle.house.specs.Simulation.{Setting}
 use Rattle.house.specs.OnTape.{StopStands, EndStands, Answered}
-use Rattle.house.specs.Control.{desk_end, row_of, path_at, head_word, at_phase, sweeping, again, controlling, control_hears, control_client, sheets, said_of, heard_of, hearing, no_sum, load, loaded, compare, comparing, cursor, emptied, old_row_at, old_row_of, row_words, opened, publish, pages_of, lay_tree, with_row, entry_weight, path_put, path_key, recalled, started, lays, tight}
+use Rattle.house.specs.Control.{desk_end, row_of, path_at, bytes_at as bytes_place, head_word, at_phase, sweeping, again, controlling, control_hears, control_client, sheets, said_of, heard_of, hearing, no_sum, load, loaded, compare, comparing, cursor, emptied, old_row_at, old_row_of, row_words, opened, publish, pages_of, lay_tree, with_row, entry_weight, path_put, path_key, recalled, started, lays, tight}
 use Rattle.house.specs.Shelf.{bytes_at, FileAt, sheets_weight, Shelf, Stands, Simple, Remembers, working, work_root, files_named}
 use Rattle.house.specs.declared.control.Control.{Control}
 use Rattle.house.specs.declared.control.Phase.{Phase}
@@ -51,23 +53,23 @@ use Rattle.house.proofs.DeskLaws.{Desk, desk_map, desk_row, row_long, part_front
 use Rattle.house.proofs.NewShelf.{shelf_over}
 use Rattle.house.proofs.ShelfLaws.{head_long, root_live, file_live, lives_of, shelf_fits, shelf_swept}
 use Rattle.house.specs.declared.control.Task.TheVariants.{Write, Drop, Read, Status, Leave}
-use Rattle.house.proofs.Sheets.{after, answers_by, Well, begins, recalls_head, empty_names, loads_tree, shows_file, compares, lays_tree, publishes_head}
+use Rattle.house.proofs.Sheets.{after, answers_by, weight_said, Well, begins, recalls_head, empty_names, loads_tree, shows_file, compares, lays_tree, publishes_head}
 
 -- the ring has room for three reserves, and no reserve is large
 reserve_small : (pages : ℕ) → pages ≤ 1048576 → reserve pages ≤ 524288
 reserve_small pages few = omega arith
 
--- WHAT IS SAID is put aside
-record Said_path (p m : List ℕ) : Type 0 where
-  long : length (path_put p m) ≡ bulk_cells
-  key : take 9 (drop path_at (path_put p m)) ≡ key_of p
+-- WHAT IS SAID is put aside: the path's key in a memory
+record Aside (p x : List ℕ) : Type 0 where
+  long : length x ≡ bulk_cells
+  key : take 9 (drop path_at x) ≡ key_of p
 
 key_long : (p : List ℕ) → length (key_of p) ≡ 9
 unfolding key_of
 key_long p = omega (arith, length-append (words 8 (p ++ zeros (64 - length p))) (length p ∷ []), length_words 8 (p ++ zeros (64 - length p)))
 
-path_said : (p m : List ℕ) → length m ≡ bulk_cells → good_path p ≡ true → Said_path p m
-path_said p m l good =
+path_aside : (p m : List ℕ) → length m ≡ bulk_cells → good_path p ≡ true → Aside p (path_put p m)
+path_aside p m l good =
     record {
       long = ap length is ∙ length_over path_at (key_of p) m (omega (arith, l, key_long p)) ∙ l;
       key =
@@ -78,15 +80,36 @@ path_said p m l good =
     is : path_put p m ≡ over path_at (key_of p) m
     is = pick_true (good_path p) (over path_at (key_of p) m) m good
 
--- what an entry weighs at a path that was put aside
-weight_aside : (p m h ws m₁ : List ℕ) → Said_path p m → proper p ≡ true → Desk h ws (drop path_at (path_put p m)) m₁ → entry_weight m₁ ≡ 64 + length p
-weight_aside p m h ws m₁ said good desk =
-    ap (λ x. capped (64 + x)) word ∙ omega (arith, leb-true (length p) 64 (and_parts (leb 1 (length p)) (leb (length p) 64) (and_parts (good_path p) (all_bytes p) good).0).1)
+-- and its bytes
+bytes_aside : (p b x : List ℕ) → length b < 65536 → Aside p x → Aside p (bytes_put bytes_place b x) × (take (words_for (length b)) (drop 9 (drop path_at (bytes_put bytes_place b x))) ≡ packed_bytes b)
+bytes_aside p b x short aside = (
+  record {
+    long = ap length (sym is) ∙ length_over bytes_place (packed_bytes b) x (omega (arith, fits)) ∙ aside.long;
+    key = ap (λ y. take 9 (drop path_at y)) (sym is) ∙ parts_stay.beside bytes_place (packed_bytes b) x path_at 9 (omega (arith, fits)) (inl (omega arith)) ∙ aside.key;
+  },
+  ap (λ y. take (words_for (length b)) (drop 9 (drop path_at y))) (sym is) ∙ ap (take (words_for (length b))) (drop-drop 9 path_at (over bytes_place (packed_bytes b) x))
+  ∙ ap (λ i. take i (drop bytes_place (over bytes_place (packed_bytes b) x))) (sym packed_long) ∙ parts_stay.here bytes_place (packed_bytes b) x (omega (arith, fits)),
+)
   where
-    word : get_or m₁ 229610 0 ≡ length p
-    word =
-        sym (get_or-drop path_at m₁ 8 0) ∙ ap (λ x. get_or x 8 0) desk.said ∙ sym (get_or-take 9 (drop path_at (path_put p m)) 8 0 (omega arith)) ∙ ap (λ x. get_or x 8 0) said.key
-        ∙ last_word p
+    packed_long : length (packed_bytes b) ≡ words_for (length b)
+    packed_long = length_words (words_for (length b)) (b ++ zeros 7)
+
+    fits : bytes_place + length (packed_bytes b) ≤ length x
+    fits = omega (arith, packed_long, short, aside.long)
+
+    is : over bytes_place (packed_bytes b) x ≡ bytes_put bytes_place b x
+    is = put_all b x bytes_place (omega (arith, short, aside.long))
+
+-- what an entry weighs at that path
+weight_aside : (p x : List ℕ) → Aside p x → proper p ≡ true → weight_said (drop path_at x) ≡ 64 + length p
+weight_aside p x aside good =
+    ap (λ i. capped (64 + i)) word ∙ omega (arith, leb-true (length p) 64 (and_parts (leb 1 (length p)) (leb (length p) 64) (and_parts (good_path p) (all_bytes p) good).0).1)
+  where
+    word : get_or (drop path_at x) 8 0 ≡ length p
+    word = sym (get_or-take 9 (drop path_at x) 8 0 (omega arith)) ∙ ap (λ y. get_or y 8 0) aside.key ∙ last_word p
+
+weight_on_desk : (h ws d m : List ℕ) → Desk h ws d m → entry_weight m ≡ weight_said d
+weight_on_desk h ws d m desk = ap (λ x. capped (64 + x)) (sym (get_or-drop path_at m 8 0) ∙ ap (λ x. get_or x 8 0) desk.said)
 
 -- a key is found as its path is
 find_by_key : (p ws : List ℕ) → proper p ≡ true → find_in p ws ≡ reference_in (found (entries_of ws) (key_of p))
@@ -426,8 +449,8 @@ module _ (s : Setting) (n : ℕ) (size : suc n ≡ s.pages) (low : 64 ≤ s.page
 
       -- READ
       module _ (p : List ℕ) (good : proper p ≡ true) (e : parsed text ≡ Some (read_file p)) (sp : spelled (read_file p) ≡ text) (ft : fits (read_file p) ≡ true) where
-        said : Said_path p m
-        said = path_said p m long (and_parts (good_path p) (all_bytes p) good).0
+        said : Aside p (path_put p m)
+        said = path_aside p m long (and_parts (good_path p) (all_bytes p) good).0
 
         -- by what is found in work, whatever is shown and however it ends
         reads_as : (f : List (List ℕ)) → found tree p ≡ f →
@@ -548,8 +571,8 @@ module _ (s : Setting) (n : ℕ) (size : suc n ≡ s.pages) (low : 64 ≤ s.page
 
       -- DROP
       module _ (p : List ℕ) (good : proper p ≡ true) (e : parsed text ≡ Some (drop_file p)) (sp : spelled (drop_file p) ≡ text) (ft : fits (drop_file p) ≡ true) where
-        put_aside : Said_path p m
-        put_aside = path_said p m long (and_parts (good_path p) (all_bytes p) good).0
+        put_aside : Aside p (path_put p m)
+        put_aside = path_aside p m long (and_parts (good_path p) (all_bytes p) good).0
 
         d : List ℕ
         d = drop path_at (path_put p m)
@@ -621,7 +644,7 @@ module _ (s : Setting) (n : ℕ) (size : suc n ≡ s.pages) (low : 64 ≤ s.page
                 taken : take_key (path_key m₁) (entry_weight m₁) (row_of m₁) ≡ take_key (key_of p) (64 + length p) ws₁
                 taken =
                     ap₂ (λ x y. take_key x (entry_weight m₁) y) (path_key_is h₁ ws₁ (drop path_at (path_put p m)) m₁ desk ∙ put_aside.key) desk.row
-                    ∙ ap (λ i. take_key (key_of p) i ws₁) (weight_aside p m h₁ ws₁ m₁ put_aside good desk)
+                    ∙ ap (λ i. take_key (key_of p) i ws₁) (weight_on_desk h₁ ws₁ (drop path_at (path_put p m)) m₁ desk ∙ weight_aside p (path_put p m) put_aside good)
 
                 row₂ : RowOf (bytes_at t₁) (take_key (key_of p) (64 + length p) ws₁) (without p tree)
                 row₂ = (take_row (bytes_at t₁) ws₁ p tree row good).1
