@@ -1,8 +1,8 @@
 -- Each command of the house that keeps sheets in work, on its tape: what it shows, how it ends, and what the tape stands for then. Assumes nothing.
-use Rattle.std.proofs.Common.{◌≡◌, ℕ, zero, suc, ◌+◌, ◌-◌, ◌*◌, ◌/◌, ◌<◌, ◌≤◌, min, Bool, true, false, not, ◌&&◌, eqb, ltb, leb, ◌⊎◌, List, [], ◌∷◌, ◌++◌, length, get_or, take, drop, Some, None, Option, sym, refl, ap, ◌∙◌, subst, subst₂, ap₂, inl, inr, ⊎_elim, arith, append-nil, length-append, length-drop}
-use Rattle.std.proofs.lemmas.Bool.{false≢true, eqb-true, le-ltb, lt-ltb, ltb-true, ltb-false, le-leb, leb-true, and_parts}
+use Rattle.std.proofs.Common.{◌≡◌, ℕ, zero, suc, ◌+◌, ◌-◌, ◌*◌, ◌/◌, ◌<◌, ◌≤◌, min, Bool, true, false, not, ◌&&◌, eqb, ltb, leb, ◌⊎◌, List, [], ◌∷◌, ◌++◌, length, get_or, take, drop, Some, None, Option, Ok, Err, Result, sym, refl, ap, ◌∙◌, subst, subst₂, ap₂, inl, inr, ⊎_elim, arith, append-nil, length-append, length-drop}
+use Rattle.std.proofs.lemmas.Bool.{false≢true, eqb-true, le-ltb, lt-ltb, ltb-true, ltb-false, le-leb, lt-leb, leb-true, and_parts}
 use Rattle.std.proofs.lemmas.List.{take_all, get_or-take, get_or-drop, drop-drop}
-use Rattle.pages.specs.Lists.{pick, each, flat, has, same, none_of, zeros, added_up, distinct}
+use Rattle.pages.specs.Lists.{pick, or, every, each, flat, has, same, none_of, zeros, added_up, distinct}
 use Rattle.pages.specs.Bytes.{all_bytes}
 use Rattle.pages.specs.Words.{over, words}
 use Rattle.pages.proofs.WordLaws.{length_over, length_words}
@@ -12,9 +12,12 @@ use Rattle.pages.specs.Engine.{bulk_cells}
 use Rattle.pages.specs.Machine.{Asked, asked, capped}
 use Rattle.pages.specs.Tape.{first_page, last_page, published, Window, Does, finishes}
 use Rattle.pages.specs.declared.machine.Request.TheVariants.{Recall, Done, Refuse}
-use Rattle.pages.proofs.ListLaws.{pick_true, pick_false, In, pick_both, or_cases, length_each, same_tells, added_up_within, once_distinct, distinct_in, in_distinct}
+use Rattle.pages.proofs.ListLaws.{pick_true, pick_false, In, in_right, in_flat, every_in, same_test, same_true, same_from, pick_both, or_cases, length_each, same_tells, added_up_within, once_distinct, distinct_in, in_distinct}
 use Rattle.objects.specs.Heap.{Live, root, named, Heap, Lives, Placed, units_at}
 use Rattle.objects.specs.Plan.{head_at}
+use Rattle.objects.specs.Marking.{key_words, Marked, Sought}
+use Rattle.objects.specs.declared.mark.Walk.{Walk}
+use Rattle.objects.proofs.GrowLaws.{heap_part}
 use Rattle.objects.specs.Layouts.{words_for, packed_bytes, bytes_put}
 use Rattle.objects.proofs.LayoutLaws.{put_all}
 use Rattle.objects.specs.Room.{reserve, RingHasRoom}
@@ -22,38 +25,42 @@ use Rattle.objects.specs.Sweeping.{roots_of, Swept}
 use Rattle.objects.specs.declared.sweep.Sweep.{Sweep}
 use Rattle.objects.proofs.PartLaws.{parts_stay}
 use Rattle.objects.proofs.RoomLaws.{ring_has_room}
-use Rattle.trees.specs.Tree.{Tree, found, without, mark, paths, both}
+use Rattle.trees.specs.Tree.{Tree, put, found, without, mark, paths, both}
 use Rattle.trees.specs.Differ.{difference_from, answers, shown}
 use Rattle.trees.specs.declared.differences.Cursor.{Cursor}
 use Rattle.trees.specs.declared.differences.Difference.{Difference}
 use Rattle.trees.proofs.AnswerLaws.{differs_right}
-use Rattle.trees.specs.Row.{good_path, key_of, entries_of, find_in, has_key, take_key, take_from, taken_from, reference_in, references}
+use Rattle.trees.specs.Row.{good_path, key_of, entries_of, find_in, room, room_for, put_key, put_answer, has_key, take_key, take_from, taken_from, reference_in, references}
 use Rattle.trees.specs.Packed.{squeezed}
+use Rattle.trees.specs.declared.rows.Refused.{Refused}
+use Rattle.trees.specs.declared.rows.Refused.TheVariants.{Path, Full}
+use Rattle.trees.proofs.PutAgain.{put_as_many, put_key_again}
 use Rattle.trees.proofs.ObjectLaws.{stored_bytes}
 use Rattle.trees.proofs.BackAgain.{last_word}
 use Rattle.trees.specs.RowOf.{proper, weight_of, RowOf}
-use Rattle.trees.specs.RowPromises.{FindsRight, TakesRight, DiffersRight, EmptyRight, Apart, listed}
-use Rattle.trees.proofs.RowOfLaws.{empty_right, finds_right, takes_right, weight_without}
-use Rattle.trees.proofs.RowParts.{find_references, length_take_key, take_references}
-use Rattle.history.specs.Book.{Sum}
-use Rattle.commands.specs.Command.{Command, spelled, fits, leave, drop_file, read_file, status}
+use Rattle.trees.specs.RowPromises.{FindsRight, PutsRight, TakesRight, DiffersRight, EmptyRight, Apart, listed}
+use Rattle.trees.proofs.RowOfLaws.{empty_right, finds_right, puts_right, takes_right, weight_without}
+use Rattle.trees.proofs.RowParts.{find_references, length_put_key, length_take_key, put_references, take_references}
+use Rattle.history.specs.Book.{Book, Sum, closed, added, clear, all_files}
+use Rattle.commands.specs.Command.{Command, spelled, fits, a_text, write_file, leave, drop_file, read_file, status}
 use Rattle.commands.specs.Parse.{parsed}
-use Rattle.house.specs.House.{Plain, Turn, turn, Clone, clone_at, set_clone, no, yes_with, with_work, drop_path, tree_of, tip, ref_of}
+use Rattle.house.specs.House.{Plain, Turn, turn, Clone, clone_at, set_clone, no, yes_with, with_work, drop_path, tree_of, tip, ref_of, weight, tree_weight}
 use Rattle.house.specs.Facts.{FineTree}
 use Rattle.house.proofs.TurnLaws.{clone_at_same}
-use Rattle.house.specs.Promise.{Said, Allowed, KnownAllowed}
+use Rattle.house.specs.Promise.{told_apart, StillApart, Said, Allowed, KnownAllowed}
 use Rattle.house.specs.Simulation.{Setting}
 use Rattle.house.specs.OnTape.{StopStands, EndStands, Answered}
-use Rattle.house.specs.Control.{desk_end, row_of, path_at, bytes_at as bytes_place, head_word, at_phase, sweeping, again, controlling, control_hears, control_client, sheets, said_of, heard_of, hearing, no_sum, load, loaded, compare, comparing, cursor, emptied, old_row_at, old_row_of, row_words, opened, publish, pages_of, lay_tree, with_row, entry_weight, path_put, path_key, recalled, started, lays, tight}
+use Rattle.house.specs.Control.{desk_end, row_of, path_at, bytes_at as bytes_place, head_word, at_phase, sweeping, again, controlling, control_hears, control_client, sheets, said_of, heard_of, hearing, sum_key, named as named_row, survey, surveyed, surveying, kept, lay_file, no_sum, load, loaded, compare, comparing, cursor, emptied, old_row_at, old_row_of, row_words, opened, publish, pages_of, lay_tree, with_row, entry_weight, path_put, path_key, recalled, started, lays, tight}
 use Rattle.house.specs.Shelf.{bytes_at, FileAt, sheets_weight, Shelf, Stands, Simple, Remembers, working, work_root, files_named}
 use Rattle.house.specs.declared.control.Control.{Control}
 use Rattle.house.specs.declared.control.Phase.{Phase}
 use Rattle.house.specs.declared.control.Phase.TheVariants.{Recalling}
 use Rattle.house.proofs.DeskLaws.{Desk, desk_map, desk_row, row_long, part_front, head_word_is, path_key_is}
-use Rattle.house.proofs.NewShelf.{shelf_over}
+use Rattle.house.proofs.NewShelf.{FileLaid, file_laid, shelf_over}
+use Rattle.house.proofs.SurveyLaws.{live_named, named_live, put_row, same_bytes, weighs_found, absent, weighs_more}
 use Rattle.house.proofs.ShelfLaws.{head_long, root_live, file_live, lives_of, shelf_fits, shelf_swept}
 use Rattle.house.specs.declared.control.Task.TheVariants.{Write, Drop, Read, Status, Leave}
-use Rattle.house.proofs.Sheets.{after, answers_by, weight_said, Well, begins, recalls_head, empty_names, loads_tree, shows_file, compares, lays_tree, publishes_head}
+use Rattle.house.proofs.Sheets.{after, answers_by, text_parts, weight_said, file_of, row_room, Well, begins, recalls_head, empty_names, loads_tree, shows_file, compares, names_file, surveys, lays_file, lays_tree, publishes_head}
 
 -- the ring has room for three reserves, and no reserve is large
 reserve_small : (pages : ℕ) → pages ≤ 1048576 → reserve pages ≤ 524288
@@ -170,6 +177,76 @@ take_row stands ws p t row good = (
   where
     path : good_path p ≡ true
     path = (and_parts (good_path p) (all_bytes p) good).0
+
+-- A FILE IS PUT INTO A ROW: there is room for it just if the tree has at most 4,096 files then
+is_ok : Result (Unit {0}) Refused → Bool
+is_ok (Ok x) = true
+is_ok (Err x) = false
+
+fits_alike : (a b : Bool) → pick {A = Result (Unit {0}) Refused} a (Ok tt) (Err Full) ≡ pick b (Ok tt) (Err Full) → a ≡ b
+unfolding is_ok
+fits_alike true true e = refl
+fits_alike false false e = refl
+fits_alike true false e = absurd (false≢true (sym (ap is_ok e)))
+fits_alike false true e = absurd (false≢true (ap is_ok e))
+
+room_right : (stands : ℕ → List ℕ) (ws p b : List ℕ) (t : Tree) → RowOf stands ws t → proper p ≡ true → length ws ≡ row_words → room_for (key_of p) 0 ws ≡ leb (length (put p b t)) 4096
+unfolding PutsRight put_answer
+room_right stands ws p b t row good l =
+    fits_alike (room_for (key_of p) 0 ws) (leb (length (put p (stands 0) t)) (room ws))
+    (sym (pick_true (good_path p) (pick (room_for (key_of p) 0 ws) (Ok tt) (Err Full)) (Err Path) (and_parts (good_path p) (all_bytes p) good).0) ∙ (puts_right stands ws t p 0 row good).0)
+    ∙ ap₂ leb (put_as_many p (stands 0) b t) (row_room ws l)
+
+-- WHAT IS KEPT, beside a quarter of the pages: numbers that stop at the highest tell the same
+weighs_alike : (q a b e : ℕ) → q < 18446744073709551615 → ltb q (capped (capped (capped a + b) + e)) ≡ ltb q (a + b + e)
+weighs_alike q a b e low =
+    same_test (ltb q (capped (capped (capped a + b) + e))) (ltb q (a + b + e))
+    (λ h. lt-ltb q (a + b + e) (omega (arith, ltb-true q (capped (capped (capped a + b) + e)) h)))
+    (λ h. lt-ltb q (capped (capped (capped a + b) + e)) (omega (arith, ltb-true q (a + b + e) h)))
+
+-- a file and its tree take no more pages than a reserve has
+file_pages : (stands : ℕ → List ℕ) (sum : Sum) (pages others : ℕ) (ws b : List ℕ) (t : Tree) → 64 ≤ pages → RowOf stands ws t → length b < 65536 → (others + (64 + length b)) + weight_of t ≤ 128 * pages →
+    pages_of (length (file_of sum b)) + pages_of (length (squeezed ws)) ≤ reserve pages
+file_pages stands sum pages others ws b t low row short light =
+    let l : length (packed_bytes b) ≡ words_for (length b) = length_words (words_for (length b)) (b ++ zeros 7) in
+    let q : 8 * length (squeezed ws) + 41 * length t ≤ weight_of t + 24 = stored_bytes stands ws t row in
+    let o : length (file_of sum b) ≡ 6 + length (packed_bytes b) = omega arith in
+    subst (λ i. pages_of i + pages_of (length (squeezed ws)) ≤ reserve pages) (sym o)
+    (both_fit (length b) (length (packed_bytes b)) (length (squeezed ws)) (weight_of t) pages others l (omega arith) light low)
+  where
+    both_fit : (size many more tree pages others : ℕ) → many ≡ words_for size → 8 * more ≤ tree + 24 → (others + (64 + size)) + tree ≤ 128 * pages → 64 ≤ pages →
+        pages_of (6 + many) + pages_of more ≤ reserve pages
+    both_fit size many more tree pages others e f g low = omega arith
+
+-- SUMS TELL FILES APART in a house's work
+in_clones : (xs : List Clone) (c : ℕ) (y : Clone) → c < length xs → In y (set_clone xs c y)
+unfolding set_clone
+in_clones [] c y h = absurd (omega arith)
+in_clones (x ∷ xs) zero y h = inl refl
+in_clones (x ∷ xs) (suc c) y h = inr (in_clones xs c y (omega arith))
+
+told_by : (sum : Sum) (b : Book) (xs : List Clone) (c : ℕ) (u : Tree) → c < length xs → told_apart sum (record { book = b; clones = set_clone xs c (working u) }) ≡ true →
+    (x y : List ℕ) → In x (each (λ f. f.bytes) u) → In y (each (λ f. f.bytes) u) → sum x ≡ sum y → x ≡ y
+unfolding told_apart
+told_by sum b xs c u h told x y i j e = same_true x y (go (same x y) refl (every_in (λ z. or (same x z) (not (same (sum x) (sum z)))) (all_files b ++ works) one y (in_right y (all_files b) works (there y j))))
+  where
+    works : List (List ℕ)
+    works = flat (λ (z : Clone). each (λ f. f.bytes) z.work) (set_clone xs c (working u))
+
+    there : (z : List ℕ) → In z (each (λ f. f.bytes) u) → In z (flat (λ (z : Clone). each (λ f. f.bytes) z.work) (set_clone xs c (working u)))
+    there z k = in_flat (λ (q : Clone). each (λ f. f.bytes) q.work) (set_clone xs c (working u)) (working u) z (in_clones xs c (working u) h) k
+
+    one : every (λ z. or (same x z) (not (same (sum x) (sum z)))) (all_files b ++ works) ≡ true
+    one = every_in (λ q. every (λ z. or (same q z) (not (same (sum q) (sum z)))) (all_files b ++ works)) works (and_parts (clear sum b) _ told).1 x (there x i)
+
+    go : (z : Bool) → same x y ≡ z → or (same x y) (not (same (sum x) (sum y))) ≡ true → same x y ≡ true
+    go true z o = z
+    go false z o = absurd (false≢true (ap not (sym (same_from (sum x) (sum y) e)) ∙ sym (ap (λ q. or q (not (same (sum x) (sum y)))) z) ∙ o))
+
+-- what is to be kept, where no commit was ever noted
+weight_is : (b : Book) (u : Tree) → b ≡ [] → weight b (working u) ≡ sheets_weight u
+unfolding weight tree_weight weight_of closed added added_up
+weight_is b u e = ap (λ x. weight x (working u)) e ∙ omega arith
 
 -- A HEAD THAT NAMES NOTHING has an empty shelf
 nothing_live : (t : List ℕ) (r : ℕ) → Live t (zeros 8) r → ⊥
@@ -654,3 +731,134 @@ module _ (s : Setting) (n : ℕ) (size : suc n ≡ s.pages) (low : 64 ≤ s.page
 
                 few_pages : pages_of (length (squeezed (take_key (key_of p) (64 + length p) ws₁))) ≤ reserve s.pages
                 few_pages = tree_pages (bytes_at t₁) s.pages ws₂ (without p tree) low row₂ (omega (arith, light))
+
+      -- WRITE
+      module _ (no_book : w.book ≡ []) (sums : (bs : List ℕ) → (length (s.sum bs) ≡ 32) × (all_bytes (s.sum bs) ≡ true)) (still : StillApart s.sum w c text)
+          (p b : List ℕ) (good : proper p ≡ true) (short : a_text b ≡ true) (e : parsed text ≡ Some (write_file p b)) (sp : spelled (write_file p b) ≡ text)
+          (ft : fits (write_file p b) ≡ true) where
+        abbrev kept_back : List ℕ
+        kept_back = bytes_put bytes_place b (path_put p m)
+
+        text_short : length b < 65536
+        text_short = (text_parts b short).0
+
+        apart_aside : Aside p kept_back × (take (words_for (length b)) (drop 9 (drop path_at kept_back)) ≡ packed_bytes b)
+        apart_aside = bytes_aside p b (path_put p m) text_short (path_aside p m long (and_parts (good_path p) (all_bytes p) good).0)
+
+        size_said : weight_said (drop path_at kept_back) ≡ 64 + length p
+        size_said = weight_aside p kept_back apart_aside.0 good
+
+        -- what the registers hold of it
+        record Writing (k₁ : Control) : Type 0 where
+          remembers : Remembers s.pages c k₁
+          bytes_are : k₁.bytes ≡ length b
+          sum_is : k₁.sum ≡ sum_key (s.sum b)
+
+        turned_write : turn s.sum w c (clone_at w.clones c) (write_file p b) ≡ pick (ltb 4096 (length (put p b tree))) (no 10 w) (yes_with [] w.book w c (working (put p b tree)))
+        unfolding turn
+        turned_write =
+            ap (λ (x : Clone). pick (ltb 4096 (length (put p b x.work))) (no 10 w) (yes_with [] w.book w c (with_work x (put p b x.work) x.joining (drop_path p x.unsettled)))) clone_is
+
+        writes_as : (Stop : List ℕ → List ℕ → Rows → Type 0) (End : Control → List ℕ → List ℕ → List ℕ → ℕ → Rows → ℕ → Type 0) →
+            ((h₁ t₁ : List ℕ) → Spot s.sum s.pages things tree h₁ t₁ → Stop h₁ t₁ []) →
+            ((k₁ : Control) (ws₁ m₁ h₁ t₁ : List ℕ) → Writing k₁ → Spot s.sum s.pages things tree h₁ t₁ → Desk h₁ ws₁ (drop path_at kept_back) m₁ →
+            RowOf (bytes_at t₁) ws₁ tree → references ws₁ ≡ files_named t₁ (work_root h₁) → 2 * reserve s.pages + (last_page h₁ - first_page h₁) ≤ n →
+            Well s.sum n Stop End (loaded k₁ m₁ Write) h₁ t₁ (last_page h₁) []) →
+            Well s.sum n Stop End (control_hears s.sum k m text) h t (last_page h) []
+        writes_as Stop End stop on =
+            subst (λ (x : Asked Control). Well s.sum n Stop End x h t (last_page h) []) (sym (says m text (write_file p b) long e))
+            (hears Stop End (hearing Write (length b) (sum_key (s.sum b)) k) kept_back h t knows.pages_are apart_aside.0.long win spot slack stop
+            (λ v m₁ h₁ t₁ spot₁ desk room.
+            let k₁ : Control = at_phase Recalling (sweeping (hearing Write (length b) (sum_key (s.sum b)) k) v) in
+            loads Stop End k₁ (row_of kept_back) (drop path_at kept_back) m₁ h₁ t₁ [] desk spot₁
+            (λ q ws₁ m₂ desk₂ row names.
+            on (at_phase q k₁) ws₁ m₂ h₁ t₁ (record { remembers = record { house = knows.house; pages_are = knows.pages_are }; bytes_are = refl; sum_is = refl }) spot₁ desk₂ row names (room refl))))
+
+        -- whether there is room for one file more, in the row
+        roomy : (ws₁ m₁ h₁ t₁ : List ℕ) → Desk h₁ ws₁ (drop path_at kept_back) m₁ → RowOf (bytes_at t₁) ws₁ tree →
+            room_for (path_key m₁) 0 (row_of m₁) ≡ leb (length (put p b tree)) 4096
+        roomy ws₁ m₁ h₁ t₁ desk row =
+            ap₂ (λ x y. room_for x 0 y) (path_key_is h₁ ws₁ (drop path_at kept_back) m₁ desk ∙ apart_aside.0.key) desk.row
+            ∙ room_right (bytes_at t₁) ws₁ p b tree row good (row_long h₁ ws₁ (drop path_at kept_back) m₁ desk)
+
+        -- too many files
+        writes_none : ltb 4096 (length (put p b tree)) ≡ true → Out
+        unfolding Out sheets
+        writes_none many =
+            comes_out h t m text (write_file p b) sp ft refl (no 10 w) (turned_write ∙ pick_true (ltb 4096 (length (put p b tree))) _ _ many)
+            (writes_as (Stop w []) (End w [] 10) (stops_before w [])
+            (λ k₁ ws₁ m₁ h₁ t₁ r spot₁ desk row names room.
+            subst (λ (x : Asked Control). Well s.sum n (Stop w []) (End w [] 10) x h₁ t₁ (last_page h₁) [])
+            (sym (pick_false (room_for (path_key m₁) 0 (row_of m₁)) _ _ (roomy ws₁ m₁ h₁ t₁ desk row ∙ lt-leb (length (put p b tree)) 4096 (ltb-true 4096 (length (put p b tree)) many))))
+            (finishes (asked k₁ m₁ (Refuse 10)) h₁ t₁ (last_page h₁) [] 10 refl (omega arith) (ends_before [] 10 k₁ m₁ h₁ t₁ r.remembers spot₁))))
+
+        module _ (fits_in : ltb 4096 (length (put p b tree)) ≡ false) where
+          few_files : length (put p b tree) ≤ 4096
+          few_files = ltb-false 4096 (length (put p b tree)) fits_in
+
+          turned_done : turn s.sum w c (clone_at w.clones c) (write_file p b) ≡ yes_with [] w.book w c (working (put p b tree))
+          turned_done = turned_write ∙ pick_false (ltb 4096 (length (put p b tree))) _ _ fits_in
+
+          apart_files : (x y : List ℕ) → In x (each (λ f. f.bytes) (put p b tree)) → In y (each (λ f. f.bytes) (put p b tree)) → s.sum x ≡ s.sum y → x ≡ y
+          unfolding StillApart Said
+          apart_files =
+              told_by s.sum w.book w.clones c (put p b tree) lt
+              (subst (λ (v : Turn). told_apart s.sum v.next ≡ true) turned_done (still (write_file p b) (sp, ft)))
+
+          -- the row in which the file has no reference yet is surveyed
+          module _ (Stop₁ : List ℕ → List ℕ → Rows → Type 0) (End₁ : Control → List ℕ → List ℕ → List ℕ → ℕ → Rows → ℕ → Type 0)
+              (k₁ : Control) (ws₁ m₁ h₁ t₁ d : List ℕ) (key : take 9 d ≡ key_of p) (size_is : weight_said d ≡ 64 + length p) (r : Writing k₁) (spot₁ : Spot s.sum s.pages things tree h₁ t₁)
+              (desk : Desk h₁ ws₁ d m₁) (row : RowOf (bytes_at t₁) ws₁ tree) (names : references ws₁ ≡ files_named t₁ (work_root h₁)) where
+            file_there : (q : ℕ) → has (references ws₁) q ≡ true → FileAt s.sum t₁ q
+            file_there q i = spot₁.shelf.files q (ap (λ x. has x q) (sym names) ∙ i)
+
+            live_there : (q : ℕ) → has (references ws₁) q ≡ true → Live t₁ (roots_of h₁) q
+            live_there q i = file_live s.sum s.pages h₁ t₁ tree spot₁.shelf q (ap (λ x. has x q) (sym names) ∙ i)
+
+            once_there : (q v : ℕ) → has (references ws₁) q ≡ true → has (references ws₁) v ≡ true → bytes_at t₁ q ≡ bytes_at t₁ v → q ≡ v
+            once_there q v i j = spot₁.shelf.once q v (ap (λ x. has x q) (sym names) ∙ i) (ap (λ x. has x v) (sym names) ∙ j)
+
+            few_there : length (put p b tree) ≤ room ws₁
+            few_there = subst (λ i. length (put p b tree) ≤ i) (sym (row_room ws₁ (row_long h₁ ws₁ d m₁ desk))) few_files
+
+            abbrev unnamed_row : List ℕ
+            unnamed_row = put_key (key_of p) (64 + length p) 0 ws₁
+
+            before : (q : ℕ) → 1 ≤ q → has (references unnamed_row) q ≡ true → has (references ws₁) q ≡ true
+            before q one i = go (put_references (key_of p) ws₁ (64 + length p) 0 q (key_long p) i)
+              where
+                go : (q ≡ 0) ⊎ (has (references ws₁) q ≡ true) → has (references ws₁) q ≡ true
+                go (inl z) = absurd (omega arith)
+                go (inr x) = x
+
+            -- a row with the file named, wherever it stands
+            named_in : (x : ℕ) (m₂ ws₂ : List ℕ) → ws₂ ≡ put_key (key_of p) (64 + length p) 0 ws₁ → Desk h₁ ws₂ d m₂ →
+                Desk h₁ (put_key (key_of p) (64 + length p) x ws₁) d (named_row x m₂)
+            named_in x m₂ ws₂ is desk₂ =
+                subst (λ y. Desk h₁ y d (named_row x m₂))
+                (ap₂ (λ y z. put_key y z x ws₂) key size_is ∙ ap (put_key (key_of p) (64 + length p) x) is ∙ put_key_again (key_of p) ws₁ (64 + length p) x 0 (key_long p))
+                (names_file s.sum n Stop₁ End₁ h₁ ws₂ d m₂ x (ap length key ∙ key_long p) desk₂).1
+
+            unnamed_desk : Desk h₁ (put_key (key_of p) (64 + length p) 0 ws₁) d (named_row 0 m₁)
+            unnamed_desk =
+                subst (λ y. Desk h₁ y d (named_row 0 m₁)) (ap₂ (λ y z. put_key y z 0 ws₁) key size_is) (names_file s.sum n Stop₁ End₁ h₁ ws₁ d m₁ 0 (ap length key ∙ key_long p) desk).1
+
+            survey_heap : Heap t₁ (8 * first_page h₁) (8 * last_page h₁) (zeros 7 ++ references (put_key (key_of p) (64 + length p) 0 ws₁))
+            survey_heap =
+                heap_part t₁ (8 * first_page h₁) (8 * last_page h₁) (roots_of h₁) (zeros 7 ++ references unnamed_row)
+                (λ q one i. live_there q (before q one (named_live₁ q one i))) spot₁.shelf.heap
+              where
+                named_live₁ : (q : ℕ) → 1 ≤ q → has (zeros 7 ++ references unnamed_row) q ≡ true → has (references unnamed_row) q ≡ true
+                named_live₁ q one i = (live_named s.sum sums t₁ ws₁ p b tree row file_there once_there good few_there (key_long p) apart_files q (root q one i)).1
+
+            surveys_row : ((w₁ : Walk) (m₂ : List ℕ) →
+                Marked t₁ (zeros 7 ++ references unnamed_row) (8 * first_page h₁) 1 (key_words (sum_key (s.sum b))) (named_row 0 m₁) w₁ m₂ → Desk h₁ unnamed_row d m₂ →
+                Well s.sum n Stop₁ End₁ (surveyed k₁ w₁ m₂) h₁ t₁ (last_page h₁) []) →
+                room_for (path_key m₁) 0 (row_of m₁) ≡ true → Well s.sum n Stop₁ End₁ (loaded k₁ m₁ Write) h₁ t₁ (last_page h₁) []
+            surveys_row on room =
+                subst (λ (x : Asked Control). Well s.sum n Stop₁ End₁ x h₁ t₁ (last_page h₁) []) (sym (pick_true (room_for (path_key m₁) 0 (row_of m₁)) _ _ room))
+                (surveys s.sum n Stop₁ End₁ k₁ unnamed_row d (named_row 0 m₁) h₁ t₁ [] unnamed_desk spot₁.shelf.others spot₁.shelf.whole (small_spot h₁ t₁ spot₁) spot₁.rises near survey_heap
+                (λ w₁ m₂ marked desk₂. on w₁ m₂ (subst (λ x. Marked t₁ (zeros 7 ++ references unnamed_row) (8 * first_page h₁) 1 (key_words x) (named_row 0 m₁) w₁ m₂) r.sum_is marked) desk₂))
+              where
+                near : last_page h₁ - first_page h₁ ≤ 1048576
+                near = omega (arith, spot₁.shelf.ring, most)

@@ -115,7 +115,7 @@ module _ (sum : Sum) (sums : (bs : List ℕ) → (length (sum bs) ≡ 32) × (al
   in_zeros (suc n) r (inr i) = in_zeros n r i
 
   -- what is live is what the row names
-  live_named : (r : ℕ) → Live t roots r → (1 ≤ r) × (has (references unnamed) r ≡ true)
+  pub live_named : (r : ℕ) → Live t roots r → (1 ≤ r) × (has (references unnamed) r ≡ true)
   live_named r (root s one e) = (one, go (in_append s (zeros 7) (references unnamed) (has_in roots s e)))
     where
       go : In s (zeros 7) ⊎ In s (references unnamed) → has (references unnamed) s ≡ true
@@ -125,7 +125,7 @@ module _ (sum : Sum) (sums : (bs : List ℕ) → (length (sum bs) ≡ 32) × (al
       let k : (1 ≤ q) × (has (references unnamed) q ≡ true) = live_named q l in
       absurd (false≢true (ap (λ rs. has rs s) (sym (file_names_none sum t q (files q (named_before q k.0 k.1)))) ∙ e))
 
-  named_live : (r : ℕ) → 1 ≤ r → has (references unnamed) r ≡ true → Live t roots r
+  pub named_live : (r : ℕ) → 1 ≤ r → has (references unnamed) r ≡ true → Live t roots r
   named_live r one e = root r one (in_has roots r (in_right r (zeros 7) (references unnamed) (has_in (references unnamed) r e)))
 
   file_live : (r : ℕ) → Live t roots r → FileAt sum t r
