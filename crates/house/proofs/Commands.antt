@@ -1,6 +1,6 @@
 -- Each command of the house that keeps sheets in work, on its tape: what it shows, how it ends, and what the tape stands for then. Assumes nothing.
 use Rattle.std.proofs.Common.{◌≡◌, ℕ, zero, suc, ◌+◌, ◌-◌, ◌*◌, ◌/◌, ◌<◌, ◌≤◌, min, Bool, true, false, not, ◌&&◌, eqb, ltb, leb, ◌⊎◌, List, [], ◌∷◌, ◌++◌, length, get_or, take, drop, Some, None, Option, Ok, Err, Result, sym, refl, ap, ◌∙◌, subst, subst₂, ap₂, inl, inr, ⊎_elim, arith, append-nil, length-append, length-drop}
-use Rattle.std.proofs.lemmas.Bool.{false≢true, eqb-true, le-ltb, lt-ltb, ltb-true, ltb-false, le-leb, lt-leb, leb-true, and_parts}
+use Rattle.std.proofs.lemmas.Bool.{false≢true, eqb-true, eqb-false, le-ltb, lt-ltb, ltb-true, ltb-false, le-leb, lt-leb, leb-true, and_parts}
 use Rattle.std.proofs.lemmas.List.{take_all, get_or-take, get_or-drop, drop-drop}
 use Rattle.pages.specs.Lists.{pick, or, every, each, flat, has, same, none_of, zeros, added_up, distinct}
 use Rattle.pages.specs.Bytes.{all_bytes}
@@ -13,14 +13,14 @@ use Rattle.pages.specs.Machine.{Asked, asked, capped}
 use Rattle.pages.specs.Tape.{first_page, last_page, published, Window, Does, finishes}
 use Rattle.pages.specs.declared.machine.Request.TheVariants.{Recall, Done, Refuse}
 use Rattle.pages.proofs.ListLaws.{pick_true, pick_false, In, in_right, in_flat, every_in, same_test, same_true, same_from, pick_both, or_cases, length_each, same_tells, added_up_within, once_distinct, distinct_in, in_distinct}
-use Rattle.objects.specs.Heap.{Live, root, named, Heap, Lives, Placed, units_at}
+use Rattle.objects.specs.Heap.{Live, root, named, Heap, Lives, has_key as key_there, weights, Placed, units_at}
 use Rattle.objects.specs.Plan.{head_at}
 use Rattle.objects.specs.Marking.{key_words, Marked, Sought}
 use Rattle.objects.specs.declared.mark.Walk.{Walk}
 use Rattle.objects.proofs.GrowLaws.{heap_part}
 use Rattle.objects.specs.Layouts.{words_for, packed_bytes, bytes_put}
 use Rattle.objects.proofs.LayoutLaws.{put_all}
-use Rattle.objects.specs.Room.{reserve, RingHasRoom}
+use Rattle.objects.specs.Room.{quarter, reserve, RingHasRoom}
 use Rattle.objects.specs.Sweeping.{roots_of, Swept}
 use Rattle.objects.specs.declared.sweep.Sweep.{Sweep}
 use Rattle.objects.proofs.PartLaws.{parts_stay}
@@ -57,7 +57,7 @@ use Rattle.house.specs.declared.control.Phase.{Phase}
 use Rattle.house.specs.declared.control.Phase.TheVariants.{Recalling}
 use Rattle.house.proofs.DeskLaws.{Desk, desk_map, desk_row, row_long, part_front, head_word_is, path_key_is}
 use Rattle.house.proofs.NewShelf.{FileLaid, file_laid, shelf_over}
-use Rattle.house.proofs.SurveyLaws.{live_named, named_live, put_row, same_bytes, weighs_found, absent, weighs_more}
+use Rattle.house.proofs.SurveyLaws.{unnamed_stands, live_named, named_live, put_row, same_bytes, weighs_found, absent, weighs_more}
 use Rattle.house.proofs.ShelfLaws.{head_long, root_live, file_live, lives_of, shelf_fits, shelf_swept}
 use Rattle.house.specs.declared.control.Task.TheVariants.{Write, Drop, Read, Status, Leave}
 use Rattle.house.proofs.Sheets.{after, answers_by, text_parts, weight_said, file_of, row_room, Well, begins, recalls_head, empty_names, loads_tree, shows_file, compares, names_file, surveys, lays_file, lays_tree, publishes_head}
@@ -862,3 +862,40 @@ module _ (s : Setting) (n : ℕ) (size : suc n ≡ s.pages) (low : 64 ≤ s.page
               where
                 near : last_page h₁ - first_page h₁ ≤ 1048576
                 near = omega (arith, spot₁.shelf.ring, most)
+
+            -- what the survey says, as the plain weight says it
+            module _ (w₁ : Walk) (m₂ : List ℕ) (marked : Marked t₁ (zeros 7 ++ references unnamed_row) (8 * first_page h₁) 1 (key_words (sum_key (s.sum b))) (named_row 0 m₁) w₁ m₂)
+                (desk₂ : Desk h₁ unnamed_row d m₂) where
+              weighed : get_or (row_of m₂) 1 0 ≡ weight_of (put p b tree)
+              weighed =
+                  ap (λ x. get_or x 1 0) desk₂.row
+                  ∙ (unnamed_stands s.sum sums t₁ ws₁ p b tree row file_there once_there good few_there (key_long p) apart_files).weighed
+
+              quarter_is : quarter (min k₁.pages 4294967296) ≡ 128 * s.pages
+              quarter_is = ap (λ x. quarter (min x 4294967296)) r.remembers.pages_are ∙ omega (arith, most)
+
+              kept_by : (z : Bool) → eqb w₁.found 0 ≡ z → kept k₁ w₁ m₂ ≡ capped (capped (capped (weights t₁ marked.lives) + weight_of (put p b tree)) + pick z (64 + length b) 0)
+              kept_by z is =
+                  ap₂ (λ x y. capped (capped (x + y) + pick (eqb w₁.found 0) (capped (64 + k₁.bytes)) 0)) marked.weight_is weighed
+                  ∙ ap₂ (λ x y. capped (capped (capped (weights t₁ marked.lives) + weight_of (put p b tree)) + pick x y 0)) is (ap (λ x. capped (64 + x)) r.bytes_are ∙ omega (arith, text_short))
+
+              -- no file is there with its sum
+              none_found : eqb w₁.found 0 ≡ true → (q : ℕ) → Live t₁ (zeros 7 ++ references unnamed_row) q → key_there 1 (key_words (sum_key (s.sum b))) (object_at t₁ q) ≡ false
+              none_found z q l = marked.found_is.nowhere (eqb-true w₁.found 0 z) q l
+
+              -- or one is there, and it has the bytes
+              one_found : eqb w₁.found 0 ≡ false → Live t₁ (zeros 7 ++ references unnamed_row) w₁.found × (key_there 1 (key_words (sum_key (s.sum b))) (object_at t₁ w₁.found) ≡ true)
+              one_found z = marked.found_is.there (omega (arith, eqb-false w₁.found 0 z))
+
+              weight_now : (z : Bool) → eqb w₁.found 0 ≡ z → sheets_weight (put p b tree) ≡ (weights t₁ marked.lives + weight_of (put p b tree)) + pick z (64 + length b) 0
+              weight_now true z =
+                  weighs_more s.sum sums t₁ ws₁ p b tree row file_there once_there good few_there (key_long p) apart_files marked.lives marked.are_live (none_found z) ∙ omega arith
+              weight_now false z =
+                  weighs_found s.sum sums t₁ ws₁ p b tree row file_there once_there good few_there (key_long p) apart_files marked.lives marked.are_live w₁.found (one_found z).0 (one_found z).1
+                  ∙ omega arith
+
+              full_is : ltb (quarter (min k₁.pages 4294967296)) (kept k₁ w₁ m₂) ≡ ltb (128 * s.pages) (sheets_weight (put p b tree))
+              full_is =
+                  ap₂ ltb quarter_is (kept_by (eqb w₁.found 0) refl)
+                  ∙ weighs_alike (128 * s.pages) (weights t₁ marked.lives) (weight_of (put p b tree)) (pick (eqb w₁.found 0) (64 + length b) 0) (omega (arith, most))
+                  ∙ ap (ltb (128 * s.pages)) (sym (weight_now (eqb w₁.found 0) refl))

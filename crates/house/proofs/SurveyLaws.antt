@@ -89,8 +89,8 @@ module _ (sum : Sum) (sums : (bs : List ℕ) → (length (sum bs) ≡ 32) × (al
   stands_for : (r : ℕ) → 1 ≤ r → stands r ≡ bytes_at t r
   stands_for r one = pick_false (eqb r 0) b (bytes_at t r) (ne_eqb r 0 (λ z. omega arith))
 
-  unnamed_row : RowOf stands unnamed (put p b tree)
-  unnamed_row =
+  pub unnamed_stands : RowOf stands unnamed (put p b tree)
+  unnamed_stands =
       put_row stands ws p b tree 0
       (row_stands (bytes_at t) stands ws tree (λ r e. sym (stands_for r (files r e).one)) row) good refl few
 
@@ -98,7 +98,7 @@ module _ (sum : Sum) (sums : (bs : List ℕ) → (length (sum bs) ≡ 32) × (al
   roots = zeros 7 ++ references unnamed
 
   bytes_are : each stands (references unnamed) ≡ each (λ f. f.bytes) (put p b tree)
-  bytes_are = row_files stands unnamed (put p b tree) unnamed_row
+  bytes_are = row_files stands unnamed (put p b tree) unnamed_stands
 
   -- what the row names is 0, for the file itself, or was named before
   named_before : (r : ℕ) → 1 ≤ r → has (references unnamed) r ≡ true → has (references ws) r ≡ true
