@@ -899,3 +899,64 @@ module _ (s : Setting) (n : ℕ) (size : suc n ≡ s.pages) (low : 64 ≤ s.page
                   ap₂ ltb quarter_is (kept_by (eqb w₁.found 0) refl)
                   ∙ weighs_alike (128 * s.pages) (weights t₁ marked.lives) (weight_of (put p b tree)) (pick (eqb w₁.found 0) (64 + length b) 0) (omega (arith, most))
                   ∙ ap (ltb (128 * s.pages)) (sym (weight_now (eqb w₁.found 0) refl))
+
+            -- NO ROOM
+            refuses_full : (w₁ : Walk) (m₂ : List ℕ) → Marked t₁ (zeros 7 ++ references unnamed_row) (8 * first_page h₁) 1 (key_words (sum_key (s.sum b))) (named_row 0 m₁) w₁ m₂ →
+                Desk h₁ unnamed_row d m₂ → ltb (128 * s.pages) (sheets_weight (put p b tree)) ≡ true → End₁ (surveying k₁ w₁) m₂ h₁ t₁ (last_page h₁) [] 8 →
+                Well s.sum n Stop₁ End₁ (surveyed k₁ w₁ m₂) h₁ t₁ (last_page h₁) []
+            refuses_full w₁ m₂ marked desk₂ full end =
+                subst (λ (x : Asked Control). Well s.sum n Stop₁ End₁ x h₁ t₁ (last_page h₁) [])
+                (sym (pick_true (ltb (quarter (min k₁.pages 4294967296)) (kept k₁ w₁ m₂)) _ _ (full_is w₁ m₂ marked desk₂ ∙ full)))
+                (finishes (asked (surveying k₁ w₁) m₂ (Refuse 8)) h₁ t₁ (last_page h₁) [] 8 refl (omega arith) end)
+
+            -- ROOM: the file is there already, or it is laid
+            settles : (w₁ : Walk) (m₂ : List ℕ) → Marked t₁ (zeros 7 ++ references unnamed_row) (8 * first_page h₁) 1 (key_words (sum_key (s.sum b))) (named_row 0 m₁) w₁ m₂ →
+                Desk h₁ unnamed_row d m₂ → ltb (128 * s.pages) (sheets_weight (put p b tree)) ≡ false →
+                (eqb w₁.found 0 ≡ true → Well s.sum n Stop₁ End₁ (lay_file (surveying k₁ w₁) m₂ (last_page h₁)) h₁ t₁ (last_page h₁) []) →
+                (eqb w₁.found 0 ≡ false → Well s.sum n Stop₁ End₁ (lay_tree (surveying k₁ w₁) (named_row w₁.found m₂) (last_page h₁)) h₁ t₁ (last_page h₁) []) →
+                Well s.sum n Stop₁ End₁ (surveyed k₁ w₁ m₂) h₁ t₁ (last_page h₁) []
+            settles w₁ m₂ marked desk₂ light new old =
+                subst (λ (x : Asked Control). Well s.sum n Stop₁ End₁ x h₁ t₁ (last_page h₁) [])
+                (sym (pick_false (ltb (quarter (min k₁.pages 4294967296)) (kept k₁ w₁ m₂)) _ _ (full_is w₁ m₂ marked desk₂ ∙ light)))
+                (subst (λ i. Well s.sum n Stop₁ End₁ (pick (eqb w₁.found 0) (lay_file (surveying k₁ w₁) m₂ i) (lay_tree (surveying k₁ w₁) (named_row w₁.found m₂) i)) h₁ t₁ (last_page h₁) [])
+                (sym (head_word_is h₁ unnamed_row d m₂ 1 (omega arith) desk₂))
+                (pick_both (λ (x : Asked Control). Well s.sum n Stop₁ End₁ x h₁ t₁ (last_page h₁) []) (eqb w₁.found 0) _ _ new old))
+
+          -- refused for room
+          writes_full : ltb (128 * s.pages) (sheets_weight (put p b tree)) ≡ true → Out
+          unfolding Out Allowed Said KnownAllowed sheets
+          writes_full full =
+              record {
+                rows = [];
+                reply = 8;
+                after = w;
+                allowed =
+                    λ ls up.
+                    inl (write_file p b, (sp, ft), ap (λ (q : Command → Bool). q (write_file p b)) known_is,
+                    inr (inl (refl, refl, refl, ap (λ (x : Turn). x.reply) turned_done, grows, more)));
+                does =
+                    writes_as (Stop w []) (End w [] 8) (stops_before w [])
+                    (λ k₁ ws₁ m₁ h₁ t₁ r spot₁ desk row names room.
+                    surveys_row (Stop w []) (End w [] 8) k₁ ws₁ m₁ h₁ t₁ (drop path_at kept_back) apart_aside.0.key size_said r spot₁ desk row names
+                    (λ w₁ m₂ marked desk₂.
+                    refuses_full (Stop w []) (End w [] 8) k₁ ws₁ m₁ h₁ t₁ (drop path_at kept_back) apart_aside.0.key size_said r spot₁ desk row names w₁ m₂ marked desk₂ full
+                    (ends_before [] 8 (surveying k₁ w₁) m₂ h₁ t₁ (record { house = r.remembers.house; pages_are = r.remembers.pages_are }) spot₁))
+                    (roomy ws₁ m₁ h₁ t₁ desk row ∙ le-leb (length (put p b tree)) 4096 few_files));
+              }
+            where
+              after : Plain
+              after = after_with (put p b tree)
+
+              weighs : weight (turn s.sum w c (clone_at w.clones c) (write_file p b)).next.book (clone_at (turn s.sum w c (clone_at w.clones c) (write_file p b)).next.clones c) ≡ sheets_weight (put p b tree)
+              weighs =
+                  ap (λ (v : Turn). weight v.next.book (clone_at v.next.clones c)) turned_done
+                  ∙ ap (weight w.book) (clone_at_same w.clones c (working (put p b tree)) lt) ∙ weight_is w.book (put p b tree) no_book
+
+              now : weight w.book (clone_at w.clones c) ≡ sheets_weight tree
+              now = ap (weight w.book) clone_is ∙ weight_is w.book tree no_book
+
+              more : 128 * s.pages < weight (turn s.sum w c (clone_at w.clones c) (write_file p b)).next.book (clone_at (turn s.sum w c (clone_at w.clones c) (write_file p b)).next.clones c)
+              more = let x : 128 * s.pages < sheets_weight (put p b tree) = ltb-true (128 * s.pages) (sheets_weight (put p b tree)) full in omega (arith, weighs, x)
+
+              grows : weight w.book (clone_at w.clones c) < weight (turn s.sum w c (clone_at w.clones c) (write_file p b)).next.book (clone_at (turn s.sum w c (clone_at w.clones c) (write_file p b)).next.clones c)
+              grows = omega (arith, more, now, spot.shelf.weight)
