@@ -1,6 +1,6 @@
 -- Each command of the house that keeps sheets in work, on its tape: what it shows, how it ends, and what the tape stands for then. Assumes nothing.
 use Rattle.std.proofs.Common.{◌≡◌, ℕ, zero, suc, ◌+◌, ◌-◌, ◌*◌, ◌/◌, ◌<◌, ◌≤◌, min, Bool, true, false, not, ◌&&◌, eqb, ltb, leb, ◌⊎◌, List, [], ◌∷◌, ◌++◌, length, get_or, take, drop, Some, None, Option, Ok, Err, Result, sym, refl, ap, ◌∙◌, subst, subst₂, ap₂, inl, inr, ⊎_elim, arith, append-nil, length-append, length-drop}
-use Rattle.std.proofs.lemmas.Bool.{false≢true, eqb-true, eqb-false, le-ltb, lt-ltb, ltb-true, ltb-false, le-leb, lt-leb, leb-true, and_parts}
+use Rattle.std.proofs.lemmas.Bool.{false≢true, eqb-true, eqb-false, eq-eqb, ne_eqb, le-ltb, lt-ltb, ltb-true, ltb-false, le-leb, lt-leb, leb-true, and_parts}
 use Rattle.std.proofs.lemmas.List.{take_all, get_or-take, get_or-drop, drop-drop}
 use Rattle.pages.specs.Lists.{pick, or, every, each, flat, has, same, none_of, zeros, added_up, distinct}
 use Rattle.pages.specs.Bytes.{all_bytes}
@@ -12,13 +12,13 @@ use Rattle.pages.specs.Engine.{bulk_cells}
 use Rattle.pages.specs.Machine.{Asked, asked, capped}
 use Rattle.pages.specs.Tape.{first_page, last_page, published, Window, Does, finishes}
 use Rattle.pages.specs.declared.machine.Request.TheVariants.{Recall, Done, Refuse}
-use Rattle.pages.proofs.ListLaws.{pick_true, pick_false, In, in_right, in_flat, every_in, same_test, same_true, same_from, pick_both, or_cases, length_each, same_tells, added_up_within, once_distinct, distinct_in, in_distinct}
+use Rattle.pages.proofs.ListLaws.{pick_true, pick_false, In, in_right, in_flat, every_in, same_test, same_true, same_from, pick_both, or_cases, or_left, length_each, same_tells, added_up_within, once_distinct, distinct_in, in_distinct}
 use Rattle.objects.specs.Heap.{Live, root, named, Heap, Lives, has_key as key_there, weights, Placed, units_at}
 use Rattle.objects.specs.Plan.{head_at}
 use Rattle.objects.specs.Marking.{key_words, Marked, Sought}
 use Rattle.objects.specs.declared.mark.Walk.{Walk}
 use Rattle.objects.proofs.GrowLaws.{heap_part}
-use Rattle.objects.specs.Layouts.{words_for, packed_bytes, bytes_put}
+use Rattle.objects.specs.Layouts.{words_for, packed_bytes, file_object, bytes_put}
 use Rattle.objects.proofs.LayoutLaws.{put_all}
 use Rattle.objects.specs.Room.{quarter, reserve, RingHasRoom}
 use Rattle.objects.specs.Sweeping.{roots_of, Swept}
@@ -40,7 +40,7 @@ use Rattle.trees.proofs.BackAgain.{last_word}
 use Rattle.trees.specs.RowOf.{proper, weight_of, RowOf}
 use Rattle.trees.specs.RowPromises.{FindsRight, PutsRight, TakesRight, DiffersRight, EmptyRight, Apart, listed}
 use Rattle.trees.proofs.RowOfLaws.{empty_right, finds_right, puts_right, takes_right, weight_without}
-use Rattle.trees.proofs.RowParts.{find_references, length_put_key, length_take_key, put_references, take_references}
+use Rattle.trees.proofs.RowParts.{find_references, row_stands, length_put_key, length_take_key, put_references, take_references}
 use Rattle.history.specs.Book.{Book, Sum, closed, added, clear, all_files}
 use Rattle.commands.specs.Command.{Command, spelled, fits, a_text, write_file, leave, drop_file, read_file, status}
 use Rattle.commands.specs.Parse.{parsed}
@@ -50,17 +50,17 @@ use Rattle.house.proofs.TurnLaws.{clone_at_same}
 use Rattle.house.specs.Promise.{told_apart, StillApart, Said, Allowed, KnownAllowed}
 use Rattle.house.specs.Simulation.{Setting}
 use Rattle.house.specs.OnTape.{StopStands, EndStands, Answered}
-use Rattle.house.specs.Control.{desk_end, row_of, path_at, bytes_at as bytes_place, head_word, at_phase, sweeping, again, controlling, control_hears, control_client, sheets, said_of, heard_of, hearing, sum_key, named as named_row, survey, surveyed, surveying, kept, lay_file, no_sum, load, loaded, compare, comparing, cursor, emptied, old_row_at, old_row_of, row_words, opened, publish, pages_of, lay_tree, with_row, entry_weight, path_put, path_key, recalled, started, lays, tight}
+use Rattle.house.specs.Control.{desk_end, row_of, path_at, bytes_at as bytes_place, head_word, at_phase, sweeping, again, controlling, control_hears, control_client, sheets, said_of, heard_of, hearing, sum_key, named as named_row, survey, surveyed, surveying, kept, lay_file, laying, no_sum, load, loaded, compare, comparing, cursor, emptied, old_row_at, old_row_of, row_words, opened, publish, pages_of, lay_tree, with_row, entry_weight, path_put, path_key, recalled, started, lays, tight}
 use Rattle.house.specs.Shelf.{bytes_at, FileAt, sheets_weight, Shelf, Stands, Simple, Remembers, working, work_root, files_named}
 use Rattle.house.specs.declared.control.Control.{Control}
 use Rattle.house.specs.declared.control.Phase.{Phase}
-use Rattle.house.specs.declared.control.Phase.TheVariants.{Recalling}
+use Rattle.house.specs.declared.control.Phase.TheVariants.{Recalling, LayingFile}
 use Rattle.house.proofs.DeskLaws.{Desk, desk_map, desk_row, row_long, part_front, head_word_is, path_key_is}
 use Rattle.house.proofs.NewShelf.{FileLaid, file_laid, shelf_over}
 use Rattle.house.proofs.SurveyLaws.{unnamed_stands, live_named, named_live, put_row, same_bytes, weighs_found, absent, weighs_more}
 use Rattle.house.proofs.ShelfLaws.{head_long, root_live, file_live, lives_of, shelf_fits, shelf_swept}
 use Rattle.house.specs.declared.control.Task.TheVariants.{Write, Drop, Read, Status, Leave}
-use Rattle.house.proofs.Sheets.{after, answers_by, text_parts, weight_said, file_of, row_room, Well, begins, recalls_head, empty_names, loads_tree, shows_file, compares, names_file, surveys, lays_file, lays_tree, publishes_head}
+use Rattle.house.proofs.Sheets.{after, answers_by, text_parts, sum_words, weight_said, file_of, row_room, Well, begins, recalls_head, empty_names, loads_tree, shows_file, compares, names_file, surveys, lays_file, lays_tree, publishes_head}
 
 -- the ring has room for three reserves, and no reserve is large
 reserve_small : (pages : ℕ) → pages ≤ 1048576 → reserve pages ≤ 524288
@@ -960,3 +960,198 @@ module _ (s : Setting) (n : ℕ) (size : suc n ≡ s.pages) (low : 64 ≤ s.page
 
               grows : weight w.book (clone_at w.clones c) < weight (turn s.sum w c (clone_at w.clones c) (write_file p b)).next.book (clone_at (turn s.sum w c (clone_at w.clones c) (write_file p b)).next.clones c)
               grows = omega (arith, more, now, spot.shelf.weight)
+
+          -- the two ways in which a file comes into the tree
+          module _ (k₁ : Control) (ws₁ m₁ h₁ t₁ d : List ℕ) (key : take 9 d ≡ key_of p) (size_is : weight_said d ≡ 64 + length p) (r : Writing k₁) (spot₁ : Spot s.sum s.pages things tree h₁ t₁)
+              (desk : Desk h₁ ws₁ d m₁) (row : RowOf (bytes_at t₁) ws₁ tree) (names : references ws₁ ≡ files_named t₁ (work_root h₁))
+              (light : ltb (128 * s.pages) (sheets_weight (put p b tree)) ≡ false) (roomy_ring : 2 * reserve s.pages + (last_page h₁ - first_page h₁) ≤ n)
+              (w₁ : Walk) (m₂ : List ℕ) (marked : Marked t₁ (zeros 7 ++ references (put_key (key_of p) (64 + length p) 0 ws₁)) (8 * first_page h₁) 1 (key_words (sum_key (s.sum b))) (named_row 0 m₁) w₁ m₂)
+              (desk₂ : Desk h₁ (put_key (key_of p) (64 + length p) 0 ws₁) d m₂) where
+            abbrev Stopping : List ℕ → List ℕ → Rows → Type 0
+            Stopping = Stop (after_with (put p b tree)) []
+
+            abbrev Ending : Control → List ℕ → List ℕ → List ℕ → ℕ → Rows → ℕ → Type 0
+            Ending = End (after_with (put p b tree)) [] 0
+
+            within : sheets_weight (put p b tree) ≤ 128 * s.pages
+            within = ltb-false (128 * s.pages) (sheets_weight (put p b tree)) light
+
+            holds : Remembers s.pages c (surveying k₁ w₁)
+            holds = record { house = r.remembers.house; pages_are = r.remembers.pages_are }
+
+            there_file : (q : ℕ) → has (references ws₁) q ≡ true → FileAt s.sum t₁ q
+            there_file = file_there Stopping Ending k₁ ws₁ m₁ h₁ t₁ d key size_is r spot₁ desk row names
+
+            there_live : (q : ℕ) → has (references ws₁) q ≡ true → Live t₁ (roots_of h₁) q
+            there_live = live_there Stopping Ending k₁ ws₁ m₁ h₁ t₁ d key size_is r spot₁ desk row names
+
+            there_once : (q v : ℕ) → has (references ws₁) q ≡ true → has (references ws₁) v ≡ true → bytes_at t₁ q ≡ bytes_at t₁ v → q ≡ v
+            there_once = once_there Stopping Ending k₁ ws₁ m₁ h₁ t₁ d key size_is r spot₁ desk row names
+
+            there_few : length (put p b tree) ≤ room ws₁
+            there_few = few_there Stopping Ending k₁ ws₁ m₁ h₁ t₁ d key size_is r spot₁ desk row names
+
+            -- the file is there already
+            names_old : eqb w₁.found 0 ≡ false → Well s.sum n Stopping Ending (lay_tree (surveying k₁ w₁) (named_row w₁.found m₂) (last_page h₁)) h₁ t₁ (last_page h₁) []
+            names_old z =
+                lays_work (put p b tree) (surveying k₁ w₁) (named_row w₁.found m₂) ws₂ d h₁ t₁ (roots_of h₁) (last_page h₁) holds
+                (named_in Stopping Ending k₁ ws₁ m₁ h₁ t₁ d key size_is r spot₁ desk row names w₁.found m₂ (put_key (key_of p) (64 + length p) 0 ws₁) refl desk₂)
+                spot₁.shelf.others spot₁.shelf.whole spot₁.rises spot₁.shelf.heap (λ q i. there_live q (was q i)) (λ q i. there_file q (was q i)) row₂
+                (λ q v i j. there_once q v (was q i) (was v j)) within (omega (arith, few_pages, roomy_ring, spot₁.rises)) (omega (arith, few_pages, reserve_small s.pages most, spot₁.slack))
+              where
+                ws₂ : List ℕ
+                ws₂ = put_key (key_of p) (64 + length p) w₁.found ws₁
+
+                live : Live t₁ (zeros 7 ++ references (put_key (key_of p) (64 + length p) 0 ws₁)) w₁.found × (key_there 1 (key_words (sum_key (s.sum b))) (object_at t₁ w₁.found) ≡ true)
+                live = one_found Stopping Ending k₁ ws₁ m₁ h₁ t₁ d key size_is r spot₁ desk row names w₁ m₂ marked desk₂ z
+
+                found_there : has (references ws₁) w₁.found ≡ true
+                found_there =
+                    let k = live_named s.sum sums t₁ ws₁ p b tree row there_file there_once good there_few (key_long p) apart_files w₁.found live.0 in
+                    before Stopping Ending k₁ ws₁ m₁ h₁ t₁ d key size_is r spot₁ desk row names w₁.found k.0 k.1
+
+                was : (q : ℕ) → has (references (put_key (key_of p) (64 + length p) w₁.found ws₁)) q ≡ true → has (references ws₁) q ≡ true
+                was q i = go (put_references (key_of p) ws₁ (64 + length p) w₁.found q (key_long p) i)
+                  where
+                    go : (q ≡ w₁.found) ⊎ (has (references ws₁) q ≡ true) → has (references ws₁) q ≡ true
+                    go (inl x) = ap (has (references ws₁)) x ∙ found_there
+                    go (inr x) = x
+
+                row₂ : RowOf (bytes_at t₁) (put_key (key_of p) (64 + length p) w₁.found ws₁) (put p b tree)
+                row₂ =
+                    put_row (bytes_at t₁) ws₁ p b tree w₁.found row good
+                    (same_bytes s.sum sums t₁ ws₁ p b tree row there_file there_once good there_few (key_long p) apart_files marked.lives marked.are_live w₁.found live.0 live.1) there_few
+
+                few_pages : pages_of (length (squeezed (put_key (key_of p) (64 + length p) w₁.found ws₁))) ≤ reserve s.pages
+                few_pages = tree_pages (bytes_at t₁) s.pages ws₂ (put p b tree) low row₂ (omega (arith, within))
+
+            -- the file is new
+            lays_new : take (words_for (length b)) (drop 9 d) ≡ packed_bytes b → eqb w₁.found 0 ≡ true →
+                Well s.sum n Stopping Ending (lay_file (surveying k₁ w₁) m₂ (last_page h₁)) h₁ t₁ (last_page h₁) []
+            lays_new packed z =
+                lays_file s.sum n Stopping Ending (surveying k₁ w₁) unnamed d m₂ h₁ t₁ b (last_page h₁) [] desk₂ (ap length key ∙ key_long p) r.bytes_are r.sum_is text_short packed
+                (omega (arith, both, roomy_ring, spot₁.rises)) (omega (arith, both, reserve_small s.pages most, spot₁.slack))
+                (λ x m₃ xl front desk₃. next x m₃ xl front (subst (λ y. Desk h₁ y d m₃) row_is desk₃))
+              where
+                unnamed : List ℕ
+                unnamed = put_key (key_of p) (64 + length p) 0 ws₁
+
+                new : ℕ
+                new = 8 * last_page h₁ + 1
+
+                ws₂ : List ℕ
+                ws₂ = put_key (key_of p) (64 + length p) (8 * last_page h₁ + 1) ws₁
+
+                row_is : put_key (take 9 d) (weight_said d) (8 * last_page h₁ + 1) (put_key (key_of p) (64 + length p) 0 ws₁) ≡ put_key (key_of p) (64 + length p) (8 * last_page h₁ + 1) ws₁
+                row_is =
+                    ap₂ (λ y v. put_key y v (8 * last_page h₁ + 1) unnamed) key size_is ∙ put_key_again (key_of p) ws₁ (64 + length p) (8 * last_page h₁ + 1) 0 (key_long p)
+
+                none : (q : ℕ) → Live t₁ (zeros 7 ++ references (put_key (key_of p) (64 + length p) 0 ws₁)) q → key_there 1 (key_words (sum_key (s.sum b))) (object_at t₁ q) ≡ false
+                none = none_found Stopping Ending k₁ ws₁ m₁ h₁ t₁ d key size_is r spot₁ desk row names w₁ m₂ marked desk₂ z
+
+                weighs : sheets_weight (put p b tree) ≡ (weights t₁ marked.lives + (64 + length b)) + weight_of (put p b tree)
+                weighs = weighs_more s.sum sums t₁ ws₁ p b tree row there_file there_once good there_few (key_long p) apart_files marked.lives marked.are_live none
+
+                -- the row that names it stands for the new tree wherever the file's bytes are at its place
+                stands : ℕ → List ℕ
+                stands q = pick (eqb q (8 * last_page h₁ + 1)) b (bytes_at t₁ q)
+
+                below : (q : ℕ) → has (references ws₁) q ≡ true → q ≤ 8 * last_page h₁
+                below q i = let g : Placed t₁ (8 * first_page h₁) (8 * last_page h₁) q = spot₁.shelf.heap.placed q (there_live q i) in omega (arith, g.above, g.within, g.whole)
+
+                row_there : RowOf stands (put_key (key_of p) (64 + length p) (8 * last_page h₁ + 1) ws₁) (put p b tree)
+                row_there =
+                    put_row stands ws₁ p b tree (8 * last_page h₁ + 1)
+                    (row_stands (bytes_at t₁) stands ws₁ tree
+                    (λ q i. sym (pick_false (eqb q (8 * last_page h₁ + 1)) b (bytes_at t₁ q) (ne_eqb q (8 * last_page h₁ + 1) (λ x. let g : q ≤ 8 * last_page h₁ = below q i in omega (arith, x))))) row)
+                    good (pick_true (eqb (8 * last_page h₁ + 1) (8 * last_page h₁ + 1)) b (bytes_at t₁ (8 * last_page h₁ + 1)) (eq-eqb (8 * last_page h₁ + 1) (8 * last_page h₁ + 1) refl)) there_few
+
+                both : pages_of (length (file_of s.sum b)) + pages_of (length (squeezed (put_key (key_of p) (64 + length p) (8 * last_page h₁ + 1) ws₁))) ≤ reserve s.pages
+                both = file_pages stands s.sum s.pages (weights t₁ marked.lives) ws₂ b (put p b tree) low row_there text_short (omega (arith, weighs, within))
+
+                next : (x m₃ : List ℕ) → length x ≡ 64 * pages_of (length (file_of s.sum b)) → take (length (file_of s.sum b)) x ≡ file_of s.sum b →
+                    Desk h₁ (put_key (key_of p) (64 + length p) (8 * last_page h₁ + 1) ws₁) d m₃ →
+                    Well s.sum n Stopping Ending
+                    (lay_tree (laying LayingFile (last_page h₁ + pages_of (length (file_of s.sum b))) (surveying k₁ w₁).root (surveying k₁ w₁)) m₃ (last_page h₁ + pages_of (length (file_of s.sum b))))
+                    h₁ (t₁ ++ x) (last_page h₁ + pages_of (length (file_of s.sum b))) []
+                next x m₃ xl front desk₃ =
+                    lays_work (put p b tree) (laying LayingFile (last_page h₁ + pages_of (length (file_of s.sum b))) (surveying k₁ w₁).root (surveying k₁ w₁)) m₃ ws₂ d h₁ (t₁ ++ x)
+                    ((8 * last_page h₁ + 1) ∷ roots_of h₁) (last_page h₁ + pages_of (length (file_of s.sum b))) (record { house = holds.house; pages_are = holds.pages_are }) desk₃ spot₁.shelf.others
+                    (omega (arith, length-append t₁ x, xl, spot₁.shelf.whole)) (omega (arith, spot₁.rises)) laid.heap live_new file_new row_new once_new within
+                    (omega (arith, both, roomy_ring, spot₁.rises)) (omega (arith, both, reserve_small s.pages most, spot₁.slack))
+                  where
+                    laid : FileLaid s.sum t₁ (roots_of h₁) b x (8 * first_page h₁) (last_page h₁) (pages_of (length (file_of s.sum b)))
+                    laid =
+                        file_laid s.sum t₁ (roots_of h₁) b (file_of s.sum b) x (8 * first_page h₁) (last_page h₁) spot₁.shelf.whole (omega (arith, spot₁.rises)) spot₁.shelf.heap short
+                        (ap (λ y. file_object y (length b) (packed_bytes b)) (sum_words (s.sum b))) xl front
+
+                    -- what the row names is the new file, or was named before
+                    cases : (q : ℕ) → has (references (put_key (key_of p) (64 + length p) (8 * last_page h₁ + 1) ws₁)) q ≡ true → (q ≡ 8 * last_page h₁ + 1) ⊎ (has (references ws₁) q ≡ true)
+                    cases q i = put_references (key_of p) ws₁ (64 + length p) (8 * last_page h₁ + 1) q (key_long p) i
+
+                    live_new : (q : ℕ) → has (references (put_key (key_of p) (64 + length p) (8 * last_page h₁ + 1) ws₁)) q ≡ true → Live (t₁ ++ x) ((8 * last_page h₁ + 1) ∷ roots_of h₁) q
+                    live_new q i = go (cases q i)
+                      where
+                        go : (q ≡ 8 * last_page h₁ + 1) ⊎ (has (references ws₁) q ≡ true) → Live (t₁ ++ x) ((8 * last_page h₁ + 1) ∷ roots_of h₁) q
+                        go (inl y) = root q (omega (arith, y)) (or_left (eqb (8 * last_page h₁ + 1) q) (has (roots_of h₁) q) (eq-eqb (8 * last_page h₁ + 1) q (sym y)))
+                        go (inr y) = laid.kept q (there_live q y)
+
+                    file_new : (q : ℕ) → has (references (put_key (key_of p) (64 + length p) (8 * last_page h₁ + 1) ws₁)) q ≡ true → FileAt s.sum (t₁ ++ x) q
+                    file_new q i = go (cases q i)
+                      where
+                        go : (q ≡ 8 * last_page h₁ + 1) ⊎ (has (references ws₁) q ≡ true) → FileAt s.sum (t₁ ++ x) q
+                        go (inl y) = subst (FileAt s.sum (t₁ ++ x)) (sym y) laid.file
+                        go (inr y) = laid.files_stay q (there_live q y) (there_file q y)
+
+                    row_new : RowOf (bytes_at (t₁ ++ x)) (put_key (key_of p) (64 + length p) (8 * last_page h₁ + 1) ws₁) (put p b tree)
+                    row_new =
+                        put_row (bytes_at (t₁ ++ x)) ws₁ p b tree (8 * last_page h₁ + 1)
+                        (row_stands (bytes_at t₁) (bytes_at (t₁ ++ x)) ws₁ tree (λ q i. sym (laid.bytes_stay q (there_live q i))) row) good laid.bytes there_few
+
+                    -- no file that was named before has its bytes
+                    other : (q : ℕ) → has (references ws₁) q ≡ true → has (references (put_key (key_of p) (64 + length p) (8 * last_page h₁ + 1) ws₁)) q ≡ true → bytes_at (t₁ ++ x) q ≡ b → ⊥
+                    other q i j e =
+                        absent s.sum sums t₁ ws₁ p b tree row there_file there_once good there_few (key_long p) apart_files marked.lives marked.are_live none q
+                        (named_live s.sum sums t₁ ws₁ p b tree row there_file there_once good there_few (key_long p) apart_files q (there_file q i).one
+                        (go (put_references (key_of p) (put_key (key_of p) (64 + length p) 0 ws₁) (64 + length p) (8 * last_page h₁ + 1) q (key_long p)
+                        (ap (λ y. has (references y) q) (put_key_again (key_of p) ws₁ (64 + length p) (8 * last_page h₁ + 1) 0 (key_long p)) ∙ j))))
+                        (sym (laid.bytes_stay q (there_live q i)) ∙ e)
+                      where
+                        go : (q ≡ 8 * last_page h₁ + 1) ⊎ (has (references (put_key (key_of p) (64 + length p) 0 ws₁)) q ≡ true) → has (references (put_key (key_of p) (64 + length p) 0 ws₁)) q ≡ true
+                        go (inl y) = let g : q ≤ 8 * last_page h₁ = below q i in absurd (omega (arith, y))
+                        go (inr y) = y
+
+                    once_new : (q v : ℕ) → has (references (put_key (key_of p) (64 + length p) (8 * last_page h₁ + 1) ws₁)) q ≡ true →
+                        has (references (put_key (key_of p) (64 + length p) (8 * last_page h₁ + 1) ws₁)) v ≡ true → bytes_at (t₁ ++ x) q ≡ bytes_at (t₁ ++ x) v → q ≡ v
+                    once_new q v i j e = go (cases q i) (cases v j)
+                      where
+                        go : (q ≡ 8 * last_page h₁ + 1) ⊎ (has (references ws₁) q ≡ true) → (v ≡ 8 * last_page h₁ + 1) ⊎ (has (references ws₁) v ≡ true) → q ≡ v
+                        go (inl y) (inl u) = y ∙ sym u
+                        go (inl y) (inr u) = absurd (other v u j (sym e ∙ ap (bytes_at (t₁ ++ x)) y ∙ laid.bytes))
+                        go (inr y) (inl u) = absurd (other q y i (e ∙ ap (bytes_at (t₁ ++ x)) u ∙ laid.bytes))
+                        go (inr y) (inr u) =
+                            there_once q v y u (sym (laid.bytes_stay q (there_live q y)) ∙ e ∙ laid.bytes_stay v (there_live v u))
+
+          -- done: the file is named where it is, or laid first; then the tree
+          writes_done : ltb (128 * s.pages) (sheets_weight (put p b tree)) ≡ false → Out
+          unfolding Out sheets
+          writes_done light =
+              comes_out h t m text (write_file p b) sp ft refl (yes_with [] w.book w c (working (put p b tree))) turned_done
+              (writes_as Stop₁ End₁ (stops_before (after_with (put p b tree)) []) goes)
+            where
+              Stop₁ : List ℕ → List ℕ → Rows → Type 0
+              Stop₁ = Stop (after_with (put p b tree)) []
+
+              End₁ : Control → List ℕ → List ℕ → List ℕ → ℕ → Rows → ℕ → Type 0
+              End₁ = End (after_with (put p b tree)) [] 0
+
+              goes : (k₁ : Control) (ws₁ m₁ h₁ t₁ : List ℕ) → Writing k₁ → Spot s.sum s.pages things tree h₁ t₁ → Desk h₁ ws₁ (drop path_at kept_back) m₁ →
+                  RowOf (bytes_at t₁) ws₁ tree → references ws₁ ≡ files_named t₁ (work_root h₁) → 2 * reserve s.pages + (last_page h₁ - first_page h₁) ≤ n →
+                  Well s.sum n Stop₁ End₁ (loaded k₁ m₁ Write) h₁ t₁ (last_page h₁) []
+              goes k₁ ws₁ m₁ h₁ t₁ r spot₁ desk row names room =
+                  surveys_row Stop₁ End₁ k₁ ws₁ m₁ h₁ t₁ (drop path_at kept_back) apart_aside.0.key size_said r spot₁ desk row names
+                  (λ w₁ m₂ marked desk₂.
+                  settles Stop₁ End₁ k₁ ws₁ m₁ h₁ t₁ (drop path_at kept_back) apart_aside.0.key size_said r spot₁ desk row names w₁ m₂ marked desk₂ light
+                  (λ z. lays_new k₁ ws₁ m₁ h₁ t₁ (drop path_at kept_back) apart_aside.0.key size_said r spot₁ desk row names light room w₁ m₂ marked desk₂ apart_aside.1 z)
+                  (λ z. names_old k₁ ws₁ m₁ h₁ t₁ (drop path_at kept_back) apart_aside.0.key size_said r spot₁ desk row names light room w₁ m₂ marked desk₂ z))
+                  (roomy ws₁ m₁ h₁ t₁ desk row ∙ le-leb (length (put p b tree)) 4096 few_files)
