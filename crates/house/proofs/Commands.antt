@@ -469,12 +469,12 @@ module _ (s : Setting) (n : ℕ) (size : suc n ≡ s.pages) (low : 64 ≤ s.page
 
     module _ (h t m text : List ℕ) (long : length m ≡ bulk_cells) (win : Window n h t (last_page h)) (spot : Spot s.sum s.pages things tree h t)
         (slack : last_page h + 2097152 * things + 2097152 ≤ 18014398509481984) where
-      Out : Type 0
+      abbrev Out : Type 0
       Out = Answered (control_client s.sum) (Remembers s.pages) (Stands s.sum s.pages) s n things c w k m h t text
 
       -- LEAVE
-      leaves : parsed text ≡ Some leave → spelled leave ≡ text → Out
-      unfolding turn Out StopStands EndStands fits sheets tree_of ref_of
+      pub leaves : parsed text ≡ Some leave → spelled leave ≡ text → Out
+      unfolding turn StopStands EndStands fits sheets tree_of ref_of
       leaves e sp =
           comes_out h t m text leave sp refl refl (yes_with [] w.book w c (working [])) turned
           (subst (λ (x : Asked Control). Well s.sum n (Stop (after_with []) []) (End (after_with []) [] 0) x h t (last_page h) []) (sym (says m text leave long e))
@@ -555,8 +555,8 @@ module _ (s : Setting) (n : ℕ) (size : suc n ≡ s.pages) (low : 64 ≤ s.page
             ap (λ (x : Clone). pick (none_of (found x.work p)) (no 3 w) (yes_with (found x.work p) w.book w c (clone_at w.clones c))) clone_is
             ∙ ap (λ (x : List (List ℕ)). pick (none_of x) (no 3 w) (yes_with x w.book w c (clone_at w.clones c))) is
 
-        reads : (f : List (List ℕ)) → found tree p ≡ f → Out
-        unfolding Out sheets StopStands EndStands
+        pub reads : (f : List (List ℕ)) → found tree p ≡ f → Out
+        unfolding sheets StopStands EndStands
         reads [] is =
             comes_out h t m text (read_file p) sp ft refl (no 3 w) (turned_read [] is)
             (reads_as [] is (Stop w []) (End w [] 3) (stops_before w []) opens)
@@ -629,8 +629,8 @@ module _ (s : Setting) (n : ℕ) (size : suc n ≡ s.pages) (low : 64 ≤ s.page
                   answers_few (length tree) os ws₁ (cursor 0 0),
                 )
 
-        tells : Out
-        unfolding Out fits sheets
+        pub tells : Out
+        unfolding fits sheets
         tells =
             comes_out h t m text status sp refl refl (yes_with (flat (mark [] tree) (paths (both [] tree))) w.book w c (clone_at w.clones c)) turned_status
             (subst (λ (x : Asked Control). Well s.sum n Stop₁ End₁ x h t (last_page h) []) (sym (says m text status long e))
@@ -681,8 +681,8 @@ module _ (s : Setting) (n : ℕ) (size : suc n ≡ s.pages) (low : 64 ≤ s.page
             ap₂ has_key (path_key_is h₁ ws₁ (drop path_at (path_put p m)) m₁ desk ∙ put_aside.key) desk.row ∙ (take_row (bytes_at t₁) ws₁ p tree row good).0
             ∙ ap (λ x. not (none_of x)) is
 
-        drops : (f : List (List ℕ)) → found tree p ≡ f → Out
-        unfolding Out sheets
+        pub drops : (f : List (List ℕ)) → found tree p ≡ f → Out
+        unfolding sheets
         drops [] is =
             comes_out h t m text (drop_file p) sp ft refl (no 3 w) (turned_drop [] is)
             (drops_as (Stop w []) (End w [] 3) (stops_before w [])
@@ -782,8 +782,8 @@ module _ (s : Setting) (n : ℕ) (size : suc n ≡ s.pages) (low : 64 ≤ s.page
             ∙ room_right (bytes_at t₁) ws₁ p b tree row good (row_long h₁ ws₁ (drop path_at kept_back) m₁ desk)
 
         -- too many files
-        writes_none : ltb 4096 (length (put p b tree)) ≡ true → Out
-        unfolding Out sheets
+        pub writes_none : ltb 4096 (length (put p b tree)) ≡ true → Out
+        unfolding sheets
         writes_none many =
             comes_out h t m text (write_file p b) sp ft refl (no 10 w) (turned_write ∙ pick_true (ltb 4096 (length (put p b tree))) _ _ many)
             (writes_as (Stop w []) (End w [] 10) (stops_before w [])
@@ -923,8 +923,8 @@ module _ (s : Setting) (n : ℕ) (size : suc n ≡ s.pages) (low : 64 ≤ s.page
                 (pick_both (λ (x : Asked Control). Well s.sum n Stop₁ End₁ x h₁ t₁ (last_page h₁) []) (eqb w₁.found 0) _ _ new old))
 
           -- refused for room
-          writes_full : ltb (128 * s.pages) (sheets_weight (put p b tree)) ≡ true → Out
-          unfolding Out Allowed Said KnownAllowed sheets
+          pub writes_full : ltb (128 * s.pages) (sheets_weight (put p b tree)) ≡ true → Out
+          unfolding Allowed Said KnownAllowed sheets
           writes_full full =
               record {
                 rows = [];
@@ -1133,8 +1133,8 @@ module _ (s : Setting) (n : ℕ) (size : suc n ≡ s.pages) (low : 64 ≤ s.page
                             there_once q v y u (sym (laid.bytes_stay q (there_live q y)) ∙ e ∙ laid.bytes_stay v (there_live v u))
 
           -- done: the file is named where it is, or laid first; then the tree
-          writes_done : ltb (128 * s.pages) (sheets_weight (put p b tree)) ≡ false → Out
-          unfolding Out sheets
+          pub writes_done : ltb (128 * s.pages) (sheets_weight (put p b tree)) ≡ false → Out
+          unfolding sheets
           writes_done light =
               comes_out h t m text (write_file p b) sp ft refl (yes_with [] w.book w c (working (put p b tree))) turned_done
               (writes_as Stop₁ End₁ (stops_before (after_with (put p b tree)) []) goes)

@@ -15,3 +15,4 @@ pub mod ShelfLaws
 pub mod NewShelf
 pub mod SurveyLaws
 pub mod Commands
+pub mod Keeping

@@ -107,11 +107,11 @@ unfolding zeros
 zeros_zero zero = refl
 zeros_zero (suc k) = zeros_zero k
 
-start_length : length (engine house_client).start ≤ 262144
+pub start_length : length (engine house_client).start ≤ 262144
 unfolding engine
 start_length = omega (arith, length_zeros 262144)
 
-start_zero : every (λ m. eqb m 0) (engine house_client).start ≡ true
+pub start_zero : every (λ m. eqb m 0) (engine house_client).start ≡ true
 unfolding engine
 start_zero = zeros_zero 262144
 
