@@ -5,8 +5,9 @@ use Rattle.pages.specs.Lists.{pick, every, zeros, so_many, none_of}
 use Rattle.pages.specs.Bytes.{all_bytes}
 use Rattle.pages.specs.Device.{blank}
 use Rattle.pages.specs.Engine.{engine, bulk_cells}
+use Rattle.pages.specs.Run.{Engine}
 use Rattle.pages.specs.Machine.{Asked, asked, capped}
-use Rattle.pages.specs.Tape.{last_page, Window, Does, finishes, Tied}
+use Rattle.pages.specs.Tape.{last_page, published, Window, Does, finishes, Tied}
 use Rattle.pages.specs.declared.machine.Request.TheVariants.{Refuse}
 use Rattle.pages.proofs.ListLaws.{pick_both, pick_true, pick_false}
 use Rattle.pages.proofs.EngineLaws.{keeps_length, keeps_small}
@@ -34,7 +35,7 @@ use Rattle.house.specs.declared.control.Task.TheVariants.{Nothing}
 use Rattle.house.specs.declared.control.Phase.TheVariants.{Resting}
 use Rattle.house.proofs.FineLaws.{stays_fine, all_empty}
 use Rattle.house.proofs.TurnLaws.{houses_apart, clone_at_same, clone_at_either}
-use Rattle.house.proofs.Simulation.{simulated}
+use Rattle.house.proofs.Simulation.{simulated, length_so_many}
 use Rattle.house.proofs.OnTape.{obligations}
 use Rattle.house.proofs.Nothing.{start_length, start_zero}
 use Rattle.house.proofs.ControlLaws.{lawful}
@@ -171,19 +172,19 @@ module _ (s : Setting) (n : ℕ) (known_is : s.known ≡ sheets) (size : suc n �
             writes_done s n size low most known_is things c w lt_clones stands.tree stands.clone fine_work k knows h t m text long win spot slack simple.no_book sums still p b ok.0 ok.1 e sp ft x y
 
     answers_by : (a : Command) → parsed text ≡ Some a → spelled a ≡ text → fits a ≡ true → Out
-    unfolding sheets
+    unfolding sheets fits
     answers_by (write_file p b) e sp ft = writes p b e sp ft
-    answers_by (drop_file p) e sp ft = ?
+    answers_by (drop_file p) e sp ft = drops s n size low most known_is things c w lt_clones stands.tree stands.clone fine_work k knows h t m text long win spot slack p (path_good p ft) e sp ft (found stands.tree p) refl
     answers_by (commit i ws) e sp ft = not_known (commit i ws) e sp ft refl refl
     answers_by (branch q) e sp ft = not_known (branch q) e sp ft refl refl
     answers_by (go_to q) e sp ft = not_known (go_to q) e sp ft refl refl
     answers_by history e sp ft = not_known history e sp ft refl refl
     answers_by (show_file q p) e sp ft = not_known (show_file q p) e sp ft refl refl
-    answers_by status e sp ft = ?
-    answers_by (read_file p) e sp ft = ?
+    answers_by status e sp ft = tells s n size low most known_is things c w lt_clones stands.tree stands.clone fine_work k knows h t m text long win spot slack e sp
+    answers_by (read_file p) e sp ft = reads s n size low most known_is things c w lt_clones stands.tree stands.clone fine_work k knows h t m text long win spot slack p (path_good p ft) e sp ft (found stands.tree p) refl
     answers_by (join q) e sp ft = not_known (join q) e sp ft refl refl
     answers_by (settle p) e sp ft = not_known (settle p) e sp ft refl refl
-    answers_by leave e sp ft = ?
+    answers_by leave e sp ft = leaves s n size low most known_is things c w lt_clones stands.tree stands.clone fine_work k knows h t m text long win spot slack e sp
     answers_by (move_onto q) e sp ft = not_known (move_onto q) e sp ft refl refl
     answers_by (carry i) e sp ft = not_known (carry i) e sp ft refl refl
     answers_by (forget q) e sp ft = not_known (forget q) e sp ft refl refl
@@ -198,3 +199,75 @@ module _ (s : Setting) (n : ℕ) (known_is : s.known ≡ sheets) (size : suc n �
         go : (o : Option Command) → parsed text ≡ o → Answers text o → Out
         go None e none = no_command e none
         go (Some a) e said = answers_by a e said.0 said.1
+
+  -- ALL THAT IS TO BE SHOWN of the client
+  resting : Control
+  resting = control 0 0 0 Nothing Resting 0 no_sum 0 0 (cursor 0 0) (sweep Marking (walk 0 0 0 0 no_sum 0) 0 0 0 0) (walk 0 0 0 0 no_sum 0)
+
+  after_turn : (things c : ℕ) (w : Plain) (text : List ℕ) (w₁ : Plain) → Simple s.houses (suc things) w → Turned s w c text w₁ → Turns w c w₁
+  unfolding Turned Turns
+  after_turn things c w text w₁ simple t =
+      subst (Turns w c) (sym t.3)
+      (subst (λ (x : Clone). Turns w c (turn s.sum w c x t.0).next) (sym (simple.bare c)) (turns s.sum w c (clone_at w.clones c).work t.0 (sym (ap (λ (q : Command → Bool). q t.0) known_is) ∙ t.2)))
+
+  kept : Kept (control_client s.sum) (Remembers s.pages) (Simple s.houses) (Stands s.sum s.pages) s n
+  unfolding resting control_saves zeros Said StaysFine Apart Turned
+  kept =
+      record {
+        blank_state = resting;
+        blank_saved = refl;
+        wakes_knowing = λ c lt. record { house = omega (arith, few); pages_are = omega (arith, most) };
+        fine_idle = λ things w x. record { fine = x.fine; no_book = x.no_book; many = x.many; bare = x.bare };
+        stands_idle = λ things c w h t x. things_left things c w h t x;
+        fine_turn = λ things c w text w₁ lt x still t.
+            simple_after s.houses things w w₁ c (subst Fine (sym t.3) (stays_fine.1 s.sum w c t.0 t.1.1 x.fine)) x (after_turn things c w text w₁ x t);
+        stands_turn = λ things c d w text w₁ h t lt ne x still tn y.
+            record {
+              tree = y.tree;
+              clone = ap (λ (v : Plain). clone_at v.clones d) tn.3 ∙ (houses_apart s.sum w c d tn.0 ne).0 ∙ y.clone;
+              shelf = y.shelf;
+              bounded = omega (arith, y.bounded);
+            };
+        answers = λ things c w k m h t text lt simple stands win long knows still. answers things c w k m h t text lt simple stands win long knows still;
+      }
+
+-- THE WHOLE PROMISE
+stands_new : (sum : Sum) (pages things c houses : ℕ) → 64 ≤ pages → things ≤ 4294967296 →
+    Stands sum pages things c (record { book = []; clones = so_many houses empty_clone }) (zeros 32) (published (zeros 32) [])
+unfolding zeros
+stands_new sum pages things c houses low many = record { tree = []; clone = all_empty houses c; shelf = shelf_new sum pages low; bounded = omega (arith, many) }
+
+pub own_kept : Sum → Engine
+own_kept sum = engine (control_client sum)
+
+steady : (sum : Sum) → ((bs : List ℕ) → (length (sum bs) ≡ 32) × (all_bytes (sum bs) ≡ true)) → Steady (own_kept sum)
+unfolding Steady own_kept engine all_bytes
+steady sum sums = (
+  start_length,
+  start_zero,
+  λ m ev. (keeps_length (control_client sum) (lawful sum sums) m ev, keeps_small (control_client sum) (lawful sum sums) m ev),
+)
+
+pub whole_sheets : Whole sheets own_kept
+unfolding Whole own_kept Simulated StaysFine all_bytes
+whole_sheets sum sums = (
+  steady sum sums,
+  λ houses pages is few low high many ok.
+      let s : Setting = record { sum = sum; known = sheets; engine = engine (control_client sum); houses = houses; pages = pages } in
+      let n : ℕ = pages - 1 in
+      let e : suc n ≡ pages = omega arith in
+      simulated (Simple houses) (Holding (control_client sum) (Remembers pages) (Stands sum pages) n) s
+      (obligations (control_client sum) (lawful sum sums) (Remembers pages) (Simple houses) (Stands sum pages) s n (kept s n refl e low high few sums) refl few e (omega arith)) is ok
+      (record { fine = stays_fine.0 houses; no_book = refl; many = length_so_many houses empty_clone; bare = λ c. all_empty houses c ∙ ap (λ (x : Clone). working x.work) (sym (all_empty houses c)) })
+      (λ c lt.
+      record {
+        power = refl;
+        still = true;
+        head = zeros 32;
+        tape = [];
+        laid = 0;
+        tied = subst (λ (p : ℕ). Tied n true (record { pages = blank p; queue = [] }) (zeros 32) [] 0) e (tied_new n (omega arith));
+        stands = stands_new sum pages (length is) c houses low many;
+        resident = λ up. absurd (false≢true up);
+      }),
+)

@@ -318,7 +318,7 @@ module _ (Fine : ℕ → Plain → Type 0) (Holds : Relation) (s : Setting) (o :
       command_cut (length is) c t ls n cs us vs w is (and_parts (flag us c) (proper (set_flag us c false) is) ok).0 st
       (λ vs₁ w₁ st₁. walk is (set_flag us c false) vs₁ w₁ (and_parts (flag us c) (proper (set_flag us c false) is) ok).1 st₁)
 
-length_so_many : {A : Type 0} (n : ℕ) (x : A) → length (so_many n x) ≡ n
+pub length_so_many : {A : Type 0} (n : ℕ) (x : A) → length (so_many n x) ≡ n
 unfolding so_many
 length_so_many zero x = refl
 length_so_many (suc n) x = ap suc (length_so_many n x)
