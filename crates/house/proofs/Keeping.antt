@@ -5,7 +5,8 @@ use Rattle.pages.specs.Lists.{pick, every, zeros, so_many, none_of}
 use Rattle.pages.specs.Bytes.{all_bytes}
 use Rattle.pages.specs.Device.{blank}
 use Rattle.pages.specs.Engine.{engine, bulk_cells}
-use Rattle.pages.specs.Run.{Engine}
+use Rattle.pages.proofs.WordLaws.{length_zeros}
+use Rattle.house.specs.Entry.{own}
 use Rattle.pages.specs.Machine.{Asked, asked, capped}
 use Rattle.pages.specs.Tape.{last_page, published, Window, Does, finishes, Tied}
 use Rattle.pages.specs.declared.machine.Request.TheVariants.{Refuse}
@@ -37,7 +38,6 @@ use Rattle.house.proofs.FineLaws.{stays_fine, all_empty}
 use Rattle.house.proofs.TurnLaws.{houses_apart, clone_at_same, clone_at_either}
 use Rattle.house.proofs.Simulation.{simulated, length_so_many}
 use Rattle.house.proofs.OnTape.{obligations}
-use Rattle.house.proofs.Nothing.{start_length, start_zero}
 use Rattle.house.proofs.ControlLaws.{lawful}
 use Rattle.house.proofs.ShelfLaws.{shelf_new}
 use Rattle.house.proofs.Commands.{Spot, leaves, reads, tells, drops, writes_none, writes_full, writes_done}
@@ -237,23 +237,34 @@ stands_new : (sum : Sum) (pages things c houses : ℕ) → 64 ≤ pages → thin
 unfolding zeros
 stands_new sum pages things c houses low many = record { tree = []; clone = all_empty houses c; shelf = shelf_new sum pages low; bounded = omega (arith, many) }
 
-pub own_kept : Sum → Engine
-own_kept sum = engine (control_client sum)
+-- memory is all 0 at the start
+zeros_zero : (k : ℕ) → every (λ m. eqb m 0) (zeros k) ≡ true
+unfolding zeros
+zeros_zero zero = refl
+zeros_zero (suc k) = zeros_zero k
 
-steady : (sum : Sum) → ((bs : List ℕ) → (length (sum bs) ≡ 32) × (all_bytes (sum bs) ≡ true)) → Steady (own_kept sum)
-unfolding Steady own_kept engine all_bytes
+start_long : (sum : Sum) → length (engine (control_client sum)).start ≤ 262144
+unfolding engine
+start_long sum = omega (arith, length_zeros 262144)
+
+start_zero : (sum : Sum) → every (λ m. eqb m 0) (engine (control_client sum)).start ≡ true
+unfolding engine
+start_zero sum = zeros_zero 262144
+
+steady : (sum : Sum) → ((bs : List ℕ) → (length (sum bs) ≡ 32) × (all_bytes (sum bs) ≡ true)) → Steady (own sum)
+unfolding Steady own all_bytes
 steady sum sums = (
-  start_length,
-  start_zero,
+  start_long sum,
+  start_zero sum,
   λ m ev. (keeps_length (control_client sum) (lawful sum sums) m ev, keeps_small (control_client sum) (lawful sum sums) m ev),
 )
 
-pub whole_sheets : Whole sheets own_kept
-unfolding Whole own_kept Simulated StaysFine all_bytes
+pub whole_sheets : Whole sheets own
+unfolding Whole own Simulated StaysFine all_bytes
 whole_sheets sum sums = (
   steady sum sums,
   λ houses pages is few low high many ok.
-      let s : Setting = record { sum = sum; known = sheets; engine = engine (control_client sum); houses = houses; pages = pages } in
+      let s : Setting = record { sum = sum; known = sheets; engine = own sum; houses = houses; pages = pages } in
       let n : ℕ = pages - 1 in
       let e : suc n ≡ pages = omega arith in
       simulated (Simple houses) (Holding (control_client sum) (Remembers pages) (Stands sum pages) n) s

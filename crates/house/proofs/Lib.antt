@@ -6,7 +6,6 @@ pub mod CarryLaws
 pub mod MorningLaws
 pub mod Simulation
 pub mod OnTape
-pub mod Nothing
 pub mod Started
 pub mod DeskLaws
 pub mod Sheets

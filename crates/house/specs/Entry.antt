@@ -9,15 +9,15 @@ use Rattle.pages.specs.declared.told.Told.{Told}
 use Rattle.pages.specs.declared.told.Told.TheVariants.{No}
 use Rattle.store.specs.Sha256.{sha256}
 use Rattle.history.specs.Book.{Sum}
-use Rattle.house.specs.Client.{house_client}
+use Rattle.house.specs.Control.{control_client}
 
 -- the house's own sum is that of FIPS 180-4 with 256 bits
 abbrev pub own_sum : Sum
 own_sum = sha256
 
--- for every sum an engine; a house that knows no command yet sums nothing
+-- for every sum an engine: the house that keeps sheets in work
 unfoldable pub own : Sum → Engine
-own sum = engine house_client
+own sum = engine (control_client sum)
 
 -- what the world tells is a kind and some bytes: 0 power, with three numbers of eight bytes, the highest first, 1 a command, 2 a page, 3 go on, 4 a letter, 5 no line
 abbrev pub event_of : ℕ → List ℕ → Event

@@ -5,7 +5,6 @@ pub mod Facts
 pub mod Morning
 pub mod Simulation
 pub mod OnTape
-pub mod Client
 pub mod Control
 pub mod Shelf
 pub mod Entry

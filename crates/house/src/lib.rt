@@ -6,13 +6,12 @@ ghost use Rattle.pages.specs.Bytes.{from_bytes};
 ghost use Rattle.pages.specs.Told.{event_meant};
 ghost use Rattle.std.specs.Prelude.{◌≡◌, ◌<◌, ◌≤◌, take, drop, MatchOption};
 
-pub mod client;
 pub mod control;
 
 pub mod laws;
 pub mod promise;
 
-use client::Registers;
+use control::Control;
 use pages::bytes::number;
 use pages::told::{Event, Told};
 
@@ -47,7 +46,7 @@ fn event_of<'a>(kind: u64, bytes: &'a [u8]) -> Option<Event<'a>>
 pub fn tell(memory: &mut [u64], event: Event, out: &mut [u8]) -> Told
     ensures { TellSays memory.old (event_meant event.entry) out.old (tell_fits memory.old out.old) result memory.new out.new }
 {
-    pages::cells::step::<Registers>(memory, event, out)
+    pages::cells::step::<Control>(memory, event, out)
 }
 
 // The same step for a world that tells numbers: a kind, and some bytes.

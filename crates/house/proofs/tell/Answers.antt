@@ -2,8 +2,8 @@ use Rattle.std.proofs.Common.{◌≡◌, ℕ, Bool, true, false, ◌&&◌, eqb, 
 use Rattle.pages.specs.Run.{Event}
 use Rattle.pages.specs.Engine.{engine_fits, StepTold}
 use Rattle.pages.specs.declared.told.Told.{Told}
-use Rattle.house.specs.Client.{house_client}
-use Rattle.house.specs.Entry.{own, TellSays, tell_fits}
+use Rattle.house.specs.Control.{control_client}
+use Rattle.house.specs.Entry.{own, own_sum, TellSays, tell_fits}
 use Rattle.house.proofs.Started.{start_length}
 use Rattle.house.proofs.tell.Goals as goal
 
@@ -11,13 +11,13 @@ fits_is : (m out : List ℕ) → tell_fits m out ≡ engine_fits m out
 unfolding tell_fits
 fits_is m out = ap (λ n. eqb (length m) n && leb 131072 (length out)) start_length
 
-says : (m : List ℕ) (ev : Event) (out : List ℕ) (r : Told) (m₁ out₁ : List ℕ) → (b : Bool) → StepTold b house_client m ev out r m₁ out₁ →
+says : (m : List ℕ) (ev : Event) (out : List ℕ) (r : Told) (m₁ out₁ : List ℕ) → (b : Bool) → StepTold b (control_client own_sum) m ev out r m₁ out₁ →
     TellSays m ev out b r m₁ out₁
 unfolding TellSays own
 says m ev out r m₁ out₁ true x = x
 says m ev out r m₁ out₁ false x = x
 
-told : (m : List ℕ) (ev : Event) (out : List ℕ) (r : Told) (m₁ out₁ : List ℕ) → StepTold (engine_fits m out) house_client m ev out r m₁ out₁ →
+told : (m : List ℕ) (ev : Event) (out : List ℕ) (r : Told) (m₁ out₁ : List ℕ) → StepTold (engine_fits m out) (control_client own_sum) m ev out r m₁ out₁ →
     TellSays m ev out (tell_fits m out) r m₁ out₁
 told m ev out r m₁ out₁ x = subst (λ b. TellSays m ev out b r m₁ out₁) (sym (fits_is m out)) (says m ev out r m₁ out₁ (engine_fits m out) x)
 
