@@ -11,5 +11,6 @@ pub mod RowOfLaws
 pub mod StoredLaws
 pub mod SpreadLaws
 pub mod BackAgain
+pub mod ObjectLaws
 pub mod MarkLaws
 pub mod AnswerLaws

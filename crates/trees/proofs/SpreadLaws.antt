@@ -6,8 +6,10 @@ use Rattle.std.proofs.lemmas.List.{drop-drop, get_or-drop, get_or-take, get_or_p
 use Rattle.pages.specs.Lists.{flat, zeros}
 use Rattle.pages.proofs.ListLaws.{pick_true, pick_false}
 use Rattle.pages.proofs.WordLaws.{length_zeros}
+use Rattle.trees.specs.Tree.{Tree}
 use Rattle.trees.specs.Row.{entry, cut, in_words, laid, room, rewritten}
-use Rattle.trees.specs.Packed.{needed, stride, unpacked, unpacked_all, spread_fits, spread_into}
+use Rattle.pages.specs.Object.{references_of, data_of}
+use Rattle.trees.specs.Packed.{needed, stride, unpacked, unpacked_all, files_in, entries_in, weight_in, spread_fits, spread_into}
 use Rattle.trees.proofs.RowLaws.{cut_take, flat_cut, rewritten_is}
 use Rattle.trees.proofs.StoredLaws.{cut_push}
 

@@ -5,4 +5,5 @@ pub mod Differ
 pub mod Packed
 pub mod RowOf
 pub mod RowPromises
+pub mod StoredPromises
 pub mod Laws

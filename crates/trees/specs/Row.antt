@@ -3,7 +3,7 @@
 -- An entry is a file again: its path is the nine words of path and length, the key; its bytes are the one reference. Assumes nothing: these are definitions, total on any row.
 use Rattle.std.specs.Prelude.{ℕ, zero, suc, ◌+◌, ◌-◌, ◌*◌, ◌/◌, min, Bool, not, ◌&&◌, List, [], ◌∷◌, ◌++◌, length, take, drop, Some, None, Ok, Err, Option, Result, nat_le, nat_lt, slice_index}
 use Rattle.std.specs.Simd.{first_chunks}
-use Rattle.pages.specs.Lists.{pick, flat, first_or, none_of, zeros}
+use Rattle.pages.specs.Lists.{pick, each, flat, first_or, none_of, zeros}
 use Rattle.pages.specs.Words.{words, bytes_of}
 use Rattle.trees.specs.declared.rows.Refused.{Refused}
 use Rattle.trees.specs.declared.rows.Refused.TheVariants.{Path, Full}
@@ -50,6 +50,13 @@ held ws = min (slice_index ws 0) (room ws)
 
 abbrev pub entries_of : List ℕ → Tree
 entries_of ws = cut (held ws) (drop 2 ws)
+
+-- the reference of an entry, and those of a row
+abbrev pub reference_of : File → ℕ
+reference_of f = first_or 0 f.bytes
+
+abbrev pub references : List ℕ → List ℕ
+references ws = each reference_of (entries_of ws)
 
 -- the ten words of an entry
 abbrev pub in_words : File → List ℕ

@@ -1,9 +1,9 @@
 -- What tree rows promise, as statements: each is a type whose proof stands on a contract of this crate.
 use Rattle.std.specs.Prelude.{◌≡◌, ℕ, ◌+◌, ◌≤◌, Bool, true, false, not, List, [], ◌∷◌, ◌++◌, length, Some, None, Ok, Err, Option, nat_le, slice_index}
-use Rattle.pages.specs.Lists.{pick, each, flat, has, same, earlier, none_of, first_or}
+use Rattle.pages.specs.Lists.{pick, each, flat, has, same, earlier, none_of}
 use Rattle.trees.specs.declared.rows.Refused.TheVariants.{Full}
 use Rattle.trees.specs.Tree.{Tree, found, put, without, same_tree, both, paths, mark}
-use Rattle.trees.specs.Row.{key_of, path_of, room, entries_of, find_in, put_in, put_answer, take_from, taken_from}
+use Rattle.trees.specs.Row.{key_of, path_of, room, entries_of, references, find_in, put_in, put_answer, take_from, taken_from}
 use Rattle.trees.specs.Packed.{squeezed, spread_fits, spread_into}
 use Rattle.trees.specs.Differ.{answers, shown}
 use Rattle.trees.specs.RowOf.{proper, RowOf}
@@ -40,9 +40,6 @@ TakesRight =
     (taken_from p ws ≡ not (none_of (found t p))) × RowOf stands (take_from p ws) (without p t)
 
 -- among the references of two rows, equal bytes mean equal references
-abbrev pub references : List ℕ → List ℕ
-references ws = each (λ f. first_or 0 f.bytes) (entries_of ws)
-
 abbrev pub Apart : (ℕ → List ℕ) → List ℕ → List ℕ → Type 0
 Apart stands xs ys = (i j : ℕ) → has (references xs) i ≡ true → has (references ys) j ≡ true → stands i ≡ stands j → i ≡ j
 

@@ -1,6 +1,7 @@
 // Laws of joining: theorems about the definitions in specs/, each on the contract of a function that does nothing else.
 ghost use Rattle.trees.specs.Laws.{JoinedRight, OneSide, FilesFound, OneTree};
 ghost use Rattle.trees.specs.RowPromises.{DiffersRight, EmptyRight, FindsRight, KeysOrdered, PutsRight, SameRight, StoredRight, TakesRight};
+ghost use Rattle.trees.specs.StoredPromises.{RenamedRight, StoredBytes, StoredObjects};
 
 // After joining there is at each path what the rule says; a clash is one from either side, and where there is none both sides come to the same.
 pub fn joins_rightly()
@@ -55,6 +56,21 @@ pub fn same_rows_same_tree()
 // A row that was stored is spread again as it was.
 pub fn stored_rows_come_back()
     ensures { StoredRight }
+{}
+
+// A stored row is an object of the tree's kind with the row's references.
+pub fn stored_rows_are_objects()
+    ensures { StoredObjects }
+{}
+
+// Other references in a stored row are the same references in what is spread.
+pub fn renamed_rows_stand()
+    ensures { RenamedRight }
+{}
+
+// A stored row takes few bytes for what its files weigh.
+pub fn stored_rows_are_short()
+    ensures { StoredBytes }
 {}
 
 // All differences of two rows are the marks of their trees.
