@@ -82,9 +82,9 @@ pub last_word : (p : List ℕ) → get_or (key_of p) 8 0 ≡ length p
 unfolding key_of
 last_word p = get_or_at (words 8 (p ++ zeros (64 - length p))) (length p) [] 0 8 (length_words 8 (p ++ zeros (64 - length p)))
 
-first_getD : (bs : List ℕ) → first_or 0 bs ≡ get_or bs 0 0
-first_getD [] = refl
-first_getD (b ∷ bs) = refl
+first_get_or : (bs : List ℕ) → first_or 0 bs ≡ get_or bs 0 0
+first_get_or [] = refl
+first_get_or (b ∷ bs) = refl
 
 -- one entry back
 module _ (f : File) (z : List ℕ) (g : good_key f.path ≡ true) (w : whole f ≡ true) where
@@ -92,7 +92,7 @@ module _ (f : File) (z : List ℕ) (g : good_key f.path ≡ true) (w : whole f �
   nine = eqb-true _ _ (and_parts (eqb (length f.path) 9) (eqb (length f.bytes) 1) w).0
 
   one : reference_of f ∷ [] ≡ f.bytes
-  one = ap (λ r. r ∷ []) (first_getD f.bytes) ∙ only_one f.bytes (eqb-true _ _ (and_parts (eqb (length f.path) 9) (eqb (length f.bytes) 1) w).1)
+  one = ap (λ r. r ∷ []) (first_get_or f.bytes) ∙ only_one f.bytes (eqb-true _ _ (and_parts (eqb (length f.path) 9) (eqb (length f.bytes) 1) w).1)
 
   pub packed_is : packed (in_words f) ≡ get_or f.path 8 0 ∷ take (needed (get_or f.path 8 0)) f.path
   unfolding packed

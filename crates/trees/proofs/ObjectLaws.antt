@@ -13,7 +13,7 @@ use Rattle.trees.specs.StoredPromises.{StoredObjects, RenamedTree, RenamedRight,
 use Rattle.trees.proofs.RowLaws.{length_cut}
 use Rattle.trees.proofs.RowOfLaws.{whole, good_parts, row_length, row_whole, row_rewritten, entries_rewritten}
 use Rattle.trees.proofs.PackLaws.{proper_parts}
-use Rattle.trees.proofs.StoredLaws.{length_squeezed, packed_bound}
+use Rattle.trees.proofs.StoredLaws.{each_each, length_squeezed, packed_bound}
 use Rattle.trees.proofs.SpreadLaws.{length_unpacked, length_unpacked_all}
 use Rattle.pages.proofs.ObjectLaws.{heading_parts}
 use Rattle.trees.proofs.BackAgain.{references_back, packed_is, length_needed, last_word}
@@ -66,10 +66,6 @@ rising_renamed : (g : ℕ → ℕ) (es : Tree) → rising_paths (each (renamed_e
 unfolding rising_paths
 rising_renamed g [] = refl
 rising_renamed g (f ∷ fs) = ap₂ (λ a b. a && b) (every_of_each _ (renamed_entry g) fs) (rising_renamed g fs)
-
-each_each : {A B C : Type 0} (f : B → C) (g : A → B) (xs : List A) → each f (each g xs) ≡ each (λ x. f (g x)) xs
-each_each f g [] = refl
-each_each f g (x ∷ xs) = ap (λ u. f (g x) ∷ u) (each_each f g xs)
 
 module _ (g : ℕ → ℕ) (xs : List ℕ) (l : 2 + files_in xs ≤ length xs) where
   count : length (references_of xs) ≡ files_in xs

@@ -31,14 +31,13 @@ path_word_in xs at k i h = sym (get_or_zeros_behind (take k (drop at xs)) 8 i �
 pub path_word_past : (xs : List ℕ) (at k i : ℕ) → k ≤ i → 0 ≡ get_or (take k (drop at xs) ++ zeros 8) i 0
 path_word_past xs at k i h = sym (get_or_zeros_behind (take k (drop at xs)) 8 i ∙ get_or_past (take k (drop at xs)) i 0 (omega (arith, length-take k (drop at xs))))
 
-pub unpacked_words : (xs : List ℕ) (at size k r : ℕ) → size ≡ get_or xs (at + 1) 0 → k ≡ needed size → r ≡ get_or xs at 0 →
-    (take 8 (take k (drop (at + 2) xs) ++ zeros 8) ++ size ∷ []) ++ r ∷ [] ≡ in_words (unpacked (drop at xs))
+pub unpacked_words : (xs : List ℕ) (at size k r : ℕ) → size ≡ get_or xs at 0 → k ≡ needed size →
+    (take 8 (take k (drop (at + 1) xs) ++ zeros 8) ++ size ∷ []) ++ r ∷ [] ≡ in_words (unpacked r (drop at xs))
 unfolding unpacked
-unpacked_words xs at size k r es ek er =
-    let s : size ≡ get_or (drop at xs) 1 0 = es ∙ sym (get_or-drop at xs 1 0) in
-    let q : r ≡ get_or (drop at xs) 0 0 = er ∙ sym (get_or-drop at xs 0 0 ∙ ap (λ n. get_or xs n 0) (add-zero at)) in
-    ap₂ (λ n ys. (take 8 (take n ys ++ zeros 8) ++ size ∷ []) ++ r ∷ []) (ek ∙ ap needed s) (sym (drop-drop 2 at xs))
-    ∙ ap₂ (λ x y. (take 8 (take (needed (get_or (drop at xs) 1 0)) (drop 2 (drop at xs)) ++ zeros 8) ++ x ∷ []) ++ y ∷ []) s q
+unpacked_words xs at size k r es ek =
+    let s : size ≡ get_or (drop at xs) 0 0 = es ∙ sym (get_or-drop at xs 0 0 ∙ ap (λ n. get_or xs n 0) (add-zero at)) in
+    ap₂ (λ n ys. (take 8 (take n ys ++ zeros 8) ++ size ∷ []) ++ r ∷ []) (ek ∙ ap needed s) (sym (drop-drop 1 at xs))
+    ∙ ap (λ x. (take 8 (take (needed (get_or (drop at xs) 0 0)) (drop 1 (drop at xs)) ++ zeros 8) ++ x ∷ []) ++ r ∷ []) s
 
 -- a word of them: of the path, its length, and the reference
 module _ (front : List ℕ) (s r : ℕ) (e : length front ≡ 8) where
@@ -56,76 +55,96 @@ pub length_front : (p : List ℕ) → length (take 8 (p ++ zeros 8)) ≡ 8
 length_front p = omega (arith, length-take 8 (p ++ zeros 8), length-append p (zeros 8), length_zeros 8)
 
 -- an entry that was stored has nine words for its key
-length_unpacked : (xs : List ℕ) → length (unpacked xs).path ≡ 9
+pub length_unpacked : (r : ℕ) (xs : List ℕ) → length (unpacked r xs).path ≡ 9
 unfolding unpacked
-length_unpacked xs =
-    let p = take (needed (get_or xs 1 0)) (drop 2 xs) in
-    omega (arith, length-append (take 8 (p ++ zeros 8)) (get_or xs 1 0 ∷ []), length-take 8 (p ++ zeros 8), length-append p (zeros 8), length_zeros 8)
+length_unpacked r xs =
+    let p = take (needed (get_or xs 0 0)) (drop 1 xs) in
+    omega (arith, length-append (take 8 (p ++ zeros 8)) (get_or xs 0 0 ∷ []), length-take 8 (p ++ zeros 8), length-append p (zeros 8), length_zeros 8)
 
-pub length_words : (xs : List ℕ) → length (in_words (unpacked xs)) ≡ 10
+pub length_words : (r : ℕ) (xs : List ℕ) → length (in_words (unpacked r xs)) ≡ 10
 unfolding unpacked
-length_words xs = omega (arith, length_unpacked xs, length-append (unpacked xs).path (get_or xs 0 0 ∷ []))
+length_words r xs = omega (arith, length_unpacked r xs, length-append (unpacked r xs).path (r ∷ []))
 
 -- one entry more is spread
-pub spread_more : (i n at at' k : ℕ) (xs body was new : List ℕ) → i < n → 10 * n ≤ length body → k ≡ 10 → new ≡ in_words (unpacked (drop at xs)) → at' ≡ at + stride (drop at xs) →
-    cut i body ++ unpacked_all (n - i) (drop at xs) ≡ unpacked_all n (drop 3 xs) → drop (10 * i) body ≡ drop (10 * i) was →
-    (cut (i + 1) (put_mid (10 * i) k body new) ++ unpacked_all (n - (i + 1)) (drop at' xs) ≡ unpacked_all n (drop 3 xs))
+pub spread_more : (i n at at' k r : ℕ) (rs xs body was new : List ℕ) (all : Tree) → i < n → 10 * n ≤ length body → k ≡ 10 → r ≡ get_or rs i 0 →
+    new ≡ in_words (unpacked r (drop at xs)) → at' ≡ at + stride (drop at xs) →
+    cut i body ++ unpacked_all (n - i) (drop i rs) (drop at xs) ≡ all → drop (10 * i) body ≡ drop (10 * i) was →
+    (cut (i + 1) (put_mid (10 * i) k body new) ++ unpacked_all (n - (i + 1)) (drop (i + 1) rs) (drop at' xs) ≡ all)
     × (drop (10 * (i + 1)) (put_mid (10 * i) k body new) ≡ drop (10 * (i + 1)) was)
 unfolding unpacked_all unpacked
-spread_more i n at at' k xs body was new h l ek en ea inv same =
+spread_more i n at at' k r rs xs body was new all h l ek er en ea inv same =
     let x : List ℕ = drop at xs in
-    let key : List ℕ = (unpacked x).path in
-    let r : ℕ = get_or x 0 0 in
+    let key : List ℕ = (unpacked r x).path in
     let b : List ℕ = put_mid (10 * i) 10 body new in
     let rest : List ℕ = drop 10 (drop (10 * i) body) in
     let lf : length (take (10 * i) body) ≡ 10 * i = length-take-le (10 * i) body (omega arith) in
     let front : take (10 * i) b ≡ take (10 * i) body = take_at (take (10 * i) body) (new ++ rest) (10 * i) lf in
     let back : drop (10 * i) b ≡ key ++ (r ∷ rest) = drop_at (take (10 * i) body) (new ++ rest) (10 * i) lf ∙ ap (λ u. u ++ rest) en ∙ append_assoc key (r ∷ []) rest in
     let e : cut i b ≡ cut i body = sym (cut_take i b) ∙ ap (cut i) front ∙ cut_take i body in
-    let ref : get_or b (10 * i + 9) 0 ≡ r = sym (get_or-drop (10 * i) b 9 0) ∙ ap (λ u. get_or u 9 0) back ∙ get_or_at key r rest 0 9 (length_unpacked x) in
-    let kw : take 9 (drop (10 * i) b) ≡ key = ap (take 9) back ∙ take_at key (r ∷ rest) 9 (length_unpacked x) in
-    let pushed : cut (i + 1) b ≡ cut i body ++ unpacked x ∷ [] = cut_push i b ∙ ap₂ (λ u v. u ++ v ∷ []) e (ap₂ (λ u v. entry u v) kw ref) in
+    let ref : get_or b (10 * i + 9) 0 ≡ r = sym (get_or-drop (10 * i) b 9 0) ∙ ap (λ u. get_or u 9 0) back ∙ get_or_at key r rest 0 9 (length_unpacked r x) in
+    let kw : take 9 (drop (10 * i) b) ≡ key = ap (take 9) back ∙ take_at key (r ∷ rest) 9 (length_unpacked r x) in
+    let first : r ≡ get_or (drop i rs) 0 0 = er ∙ sym (get_or-drop i rs 0 0 ∙ ap (λ j. get_or rs j 0) (add-zero i)) in
+    let pushed : cut (i + 1) b ≡ cut i body ++ unpacked (get_or (drop i rs) 0 0) x ∷ [] = cut_push i b ∙ ap₂ (λ u v. u ++ v ∷ []) e (ap₂ (λ u v. entry u v) kw (ref ∙ first)) in
     let m : n - i ≡ suc (n - (i + 1)) = omega arith in
     let d : drop at' xs ≡ drop (stride x) x = ap (λ j. drop j xs) ea ∙ sym (drop-drop (stride x) at xs) in
-    let ten : length (key ++ r ∷ []) ≡ 10 = omega (arith, length-append key (r ∷ []), length_unpacked x) in
+    let ten : length (key ++ r ∷ []) ≡ 10 = omega (arith, length-append key (r ∷ []), length_unpacked r x) in
     let j : 10 * i + 10 ≡ 10 * (i + 1) = omega arith in
-    let all : cut (i + 1) b ++ unpacked_all (n - (i + 1)) (drop at' xs) ≡ unpacked_all n (drop 3 xs) =
-    ap₂ (λ u v. u ++ unpacked_all (n - (i + 1)) v) pushed d ∙ append_assoc (cut i body) (unpacked x ∷ []) (unpacked_all (n - (i + 1)) (drop (stride x) x))
-    ∙ ap (λ q. cut i body ++ unpacked_all q x) (sym m) ∙ inv in
-    let left : drop (10 * (i + 1)) b ≡ drop (10 * (i + 1)) was =
+    let left : Tree = unpacked_all (n - (i + 1)) (drop 1 (drop i rs)) (drop (stride x) x) in
+    let is : cut (i + 1) b ++ unpacked_all (n - (i + 1)) (drop (i + 1) rs) (drop at' xs) ≡ all =
+    ap₂ (λ u v. u ++ unpacked_all (n - (i + 1)) (drop (i + 1) rs) v) pushed d
+    ∙ ap (λ v. (cut i body ++ unpacked (get_or (drop i rs) 0 0) x ∷ []) ++ unpacked_all (n - (i + 1)) v (drop (stride x) x)) (sym (drop-drop 1 i rs))
+    ∙ append_assoc (cut i body) (unpacked (get_or (drop i rs) 0 0) x ∷ []) left
+    ∙ ap (λ q. cut i body ++ unpacked_all q (drop i rs) x) (sym m) ∙ inv in
+    let kept : drop (10 * (i + 1)) b ≡ drop (10 * (i + 1)) was =
     ap (λ q. drop q b) (sym j) ∙ sym (drop-drop 10 (10 * i) b) ∙ ap (drop 10) (back ∙ sym (append_assoc key (r ∷ []) rest)) ∙ drop_at (key ++ r ∷ []) rest 10 ten
     ∙ ap (drop 10) same ∙ drop-drop 10 (10 * i) was ∙ ap (λ q. drop q was) j in (
-      ap (λ q. cut (i + 1) (put_mid (10 * i) q body new) ++ unpacked_all (n - (i + 1)) (drop at' xs)) ek ∙ all,
-      ap (λ q. drop (10 * (i + 1)) (put_mid (10 * i) q body new)) ek ∙ left,
+      ap (λ q. cut (i + 1) (put_mid (10 * i) q body new) ++ unpacked_all (n - (i + 1)) (drop (i + 1) rs) (drop at' xs)) ek ∙ is,
+      ap (λ q. drop (10 * (i + 1)) (put_mid (10 * i) q body new)) ek ∙ kept,
     )
 
-pub length_unpacked_all : (n : ℕ) (xs : List ℕ) → length (unpacked_all n xs) ≡ n
+pub length_unpacked_all : (n : ℕ) (rs xs : List ℕ) → length (unpacked_all n rs xs) ≡ n
 unfolding unpacked_all
-length_unpacked_all zero xs = refl
-length_unpacked_all (suc n) xs = ap suc (length_unpacked_all n (drop (stride xs) xs))
+length_unpacked_all zero rs xs = refl
+length_unpacked_all (suc n) rs xs = ap suc (length_unpacked_all n (drop 1 rs) (drop (stride xs) xs))
 
 -- and all are
-pub spread_all : (i n at : ℕ) (xs body was : List ℕ) → i ≡ n → 10 * n ≤ length body → cut i body ++ unpacked_all (n - i) (drop at xs) ≡ unpacked_all n (drop 3 xs) →
-    drop (10 * i) body ≡ drop (10 * i) was → body ≡ laid (unpacked_all n (drop 3 xs)) was
+pub spread_all : (i n at : ℕ) (rs xs body was : List ℕ) (all : Tree) → i ≡ n → 10 * n ≤ length body → length all ≡ n →
+    cut i body ++ unpacked_all (n - i) (drop i rs) (drop at xs) ≡ all → drop (10 * i) body ≡ drop (10 * i) was → body ≡ laid all was
 unfolding unpacked_all
-spread_all i n at xs body was e l inv same =
+spread_all i n at rs xs body was all e l la inv same =
     let z : n - i ≡ 0 = omega arith in
-    let u : cut n body ≡ unpacked_all n (drop 3 xs) = ap (λ j. cut j body) (sym e) ∙ sym (append-nil (cut i body)) ∙ ap (λ j. cut i body ++ unpacked_all j (drop at xs)) (sym z) ∙ inv in
+    let u : cut n body ≡ all = ap (λ j. cut j body) (sym e) ∙ sym (append-nil (cut i body)) ∙ ap (λ j. cut i body ++ unpacked_all j (drop i rs) (drop at xs)) (sym z) ∙ inv in
     sym (take-append-drop (10 * n) body) ∙ ap₂ (λ a b. a ++ b) (sym (flat_cut n body l)) (ap (λ j. drop (10 * j) body) (sym e) ∙ same ∙ ap (λ j. drop (10 * j) was) e)
-    ∙ ap₂ (λ es j. flat in_words es ++ drop (10 * j) was) u (sym (length_unpacked_all n (drop 3 xs)))
+    ∙ ap₂ (λ es j. flat in_words es ++ drop (10 * j) was) u (sym la)
 
-pub spread_done : (xs ws b : List ℕ) (c w n : ℕ) → 2 ≤ length ws → n ≡ get_or xs 1 0 → n ≤ room ws → c ≡ n → w ≡ get_or xs 2 0 → b ≡ laid (unpacked_all n (drop 3 xs)) (drop 2 ws) →
-    (true ≡ spread_fits xs ws) × (set (set (put_mid 2 (length ws - 2) ws b) 0 c) 1 w ≡ spread_into xs ws)
+-- references behind those that are read do not matter
+unpacked_take : (n : ℕ) (rs xs : List ℕ) → unpacked_all n (take n rs) xs ≡ unpacked_all n rs xs
+unfolding unpacked_all
+unpacked_take zero rs xs = refl
+unpacked_take (suc n) [] xs = refl
+unpacked_take (suc n) (r ∷ rs) xs = ap (λ u. unpacked r xs ∷ u) (unpacked_take n rs (drop (stride xs) xs))
+
+-- the entries, as code reads them that lends all words
+pub entries_read : (xs : List ℕ) (n : ℕ) → n ≡ files_in xs → unpacked_all n (drop 2 xs) (drop (3 + n) xs) ≡ entries_in xs
+entries_read xs n e =
+    let k = files_in xs in
+    let m : 3 + n ≡ 2 + k + 1 = omega arith in
+    ap₂ (λ i j. unpacked_all i (drop 2 xs) (drop j xs)) e m ∙ ap (unpacked_all k (drop 2 xs)) (sym (drop-drop 1 (2 + k) xs)) ∙ sym (unpacked_take k (drop 2 xs) (drop 1 (data_of xs)))
+
+pub spread_done : (xs ws b : List ℕ) (c w n : ℕ) → 2 ≤ length ws → n ≡ files_in xs → n ≤ room ws → c ≡ n → w ≡ get_or xs (2 + n) 0 →
+    b ≡ laid (unpacked_all n (drop 2 xs) (drop (3 + n) xs)) (drop 2 ws) → (true ≡ spread_fits xs ws) × (set (set (put_mid 2 (length ws - 2) ws b) 0 c) 1 w ≡ spread_into xs ws)
 unfolding spread_into
 spread_done xs ws b c w n l en h ec ew e =
-    let t : spread_fits xs ws ≡ true = and_from (leb 2 (length ws)) (leb (get_or xs 1 0) (room ws)) (le-leb 2 (length ws) l) (le-leb (get_or xs 1 0) (room ws) (omega arith)) in
-    let es = unpacked_all (get_or xs 1 0) (drop 3 xs) in
-    let is : b ≡ laid es (drop 2 ws) = e ∙ ap (λ m. laid (unpacked_all m (drop 3 xs)) (drop 2 ws)) en in (
+    let k = files_in xs in
+    let t : spread_fits xs ws ≡ true = and_from (leb 2 (length ws)) (leb k (room ws)) (le-leb 2 (length ws) l) (le-leb k (room ws) (omega arith)) in
+    let es = entries_in xs in
+    let is : b ≡ laid es (drop 2 ws) = e ∙ ap (λ u. laid u (drop 2 ws)) (entries_read xs n en) in
+    let weight : w ≡ weight_in xs = ew ∙ ap (λ i. get_or xs (2 + i) 0) en ∙ sym (get_or-drop (2 + k) xs 0 0 ∙ ap (λ i. get_or xs i 0) (add-zero (2 + k))) in (
       sym t,
-      rewritten_is ws b es c w l is (ec ∙ en ∙ sym (length_unpacked_all (get_or xs 1 0) (drop 3 xs))) ∙ ap (λ v. rewritten v es ws) ew
-          ∙ sym (pick_true (spread_fits xs ws) (rewritten (get_or xs 2 0) es ws) ws t),
+      rewritten_is ws b es c w l is (ec ∙ en ∙ sym (length_unpacked_all k (references_of xs) (drop 1 (data_of xs)))) ∙ ap (λ v. rewritten v es ws) weight
+          ∙ sym (pick_true (spread_fits xs ws) (rewritten (weight_in xs) es ws) ws t),
     )
 
 pub spread_not : (xs ws : List ℕ) → spread_fits xs ws ≡ false → (false ≡ spread_fits xs ws) × (ws ≡ spread_into xs ws)
 unfolding spread_into
-spread_not xs ws f = (sym f, sym (pick_false (spread_fits xs ws) (rewritten (get_or xs 2 0) (unpacked_all (get_or xs 1 0) (drop 3 xs)) ws) ws f))
+spread_not xs ws f = (sym f, sym (pick_false (spread_fits xs ws) (rewritten (weight_in xs) (entries_in xs) ws) ws f))

@@ -1,19 +1,24 @@
--- Entries as they are stored: how many words they take, and where each one stands.
-use Rattle.std.proofs.Common.{◌≡◌, ℕ, suc, ◌+◌, ◌-◌, ◌*◌, ◌<◌, ◌≤◌, true, false, leb, List, [], ◌∷◌, ◌++◌, length, get_or, take, drop, set, Some, None, sym, refl, ap, ◌∙◌, ap₂, append_assoc, append-nil, arith, length-append, length-drop, length-set, length-take}
+-- Rows as they are stored: how many words a path takes, and where each word stands.
+use Rattle.std.proofs.Common.{◌≡◌, ℕ, suc, ◌+◌, ◌-◌, ◌*◌, ◌<◌, ◌≤◌, true, false, leb, List, [], ◌∷◌, ◌++◌, length, get_or, take, drop, set, Some, None, sym, refl, ap, ◌∙◌, ap₂, append_assoc, append-nil, zero-add, arith, length-append, length-drop, length-set, length-take}
 use borrow.Rule.Slice.PartMut.{put_mid}
-use Rattle.std.proofs.lemmas.List.{drop-drop, take_at, drop_at, length-take-le, take_more, take_more_set, drop-set-lt, take-append-drop, drop_all, take_all}
+use Rattle.std.proofs.lemmas.List.{drop-drop, take_at, drop_at, length-take-le, take_more, take_more_set, drop-set-lt, take-append-drop}
 use Rattle.std.proofs.lemmas.Bool.{le-leb, lt-leb}
-use Rattle.pages.proofs.ListLaws.{pick_true, pick_false}
 use Rattle.std.specs.List.{sum_by}
 use Rattle.std.proofs.lemmas.List.Sums.{sum_by-cons}
 use Rattle.pages.specs.Lists.{each, flat}
+use Rattle.pages.proofs.ListLaws.{pick_true, pick_false, length_each, each_append}
 use Rattle.pages.specs.Words.{over}
-use Rattle.trees.specs.Row.{entry, cut, held, entries_of, in_words, tens}
-use Rattle.trees.specs.Packed.{heading, needed, packed, packed_all, squeezed, squeeze_answer, squeeze_into}
-use Rattle.trees.proofs.RowLaws.{take_cut, drop_cut, cut_more, flat_append}
-use Rattle.trees.proofs.EntryLaws.{get_tens, held_within, length_tens, words_tens}
+use Rattle.pages.proofs.WordLaws.{length_over}
+use Rattle.pages.specs.Object.{heading}
+use Rattle.trees.specs.Tree.{Tree}
+use Rattle.trees.specs.Row.{entry, cut, held, entries_of, as_entry, in_words, reference_of, references, tens}
+use Rattle.trees.specs.Packed.{needed, packed, packed_all, squeezed, squeeze_answer, squeeze_into}
+use Rattle.trees.proofs.RowLaws.{length_cut, take_cut, drop_cut, cut_more, flat_append}
+use Rattle.trees.proofs.EntryLaws.{entries_are, get_tens, held_within, length_tens, words_tens}
 
-pub length_packed : (e : List ℕ) → 8 ≤ length e → length (packed e) ≡ 2 + needed (get_or e 8 0)
+-- HOW MANY WORDS
+
+pub length_packed : (e : List ℕ) → 8 ≤ length e → length (packed e) ≡ 1 + needed (get_or e 8 0)
 unfolding packed
 length_packed e h = omega (arith, length-take (needed (get_or e 8 0)) e)
 
@@ -52,82 +57,119 @@ packed_within i es h =
       length-append (flat packed (take i es)) (packed (get_or es i [])),
     )
 
--- how many words they take
-pub measured : (es : List (List ℕ)) → ((i : ℕ) → i < length es → length (get_or es i []) ≡ 10) →
-    (sum_by (λ e. 2 + needed (get_or e 8 0)) es ≡ length (flat packed es)) × (sum_by (λ e. 2 + needed (get_or e 8 0)) es ≤ 10 * length es)
-measured [] p = (refl, omega arith)
+-- the references of a row, and of its entries as arrays
+pub length_references : (n : ℕ) (xs : List ℕ) → length (each reference_of (cut n xs)) ≡ n
+length_references n xs = length_each reference_of (cut n xs) ∙ length_cut n xs
+
+pub each_each : {A B C : Type 0} (f : B → C) (g : A → B) (xs : List A) → each f (each g xs) ≡ each (λ x. f (g x)) xs
+each_each f g [] = refl
+each_each f g (x ∷ xs) = ap (λ u. f (g x) ∷ u) (each_each f g xs)
+
+pub references_entries : (ws : List ℕ) (es : List (List ℕ)) → es ≡ tens (held ws) (drop 2 ws) → each (λ e. get_or e 9 0) es ≡ references ws
+references_entries ws es e = sym (each_each reference_of as_entry es) ∙ ap (each reference_of) (entries_are ws es e)
+
+pub references_push : (i : ℕ) (es : List (List ℕ)) → i < length es →
+    each (λ e. get_or e 9 0) (take (i + 1) es) ≡ each (λ e. get_or e 9 0) (take i es) ++ get_or (get_or es i []) 9 0 ∷ []
+references_push i es h = ap (each (λ e. get_or e 9 0)) (take_more es i [] h) ∙ each_append (λ e. get_or e 9 0) (take i es) (get_or es i [] ∷ [])
+
+-- nine words at most
+pub packed_bound : (es : Tree) → length (packed_all es) ≤ 9 * length es
+unfolding packed
+packed_bound [] = omega arith
+packed_bound (f ∷ fs) =
+    let e = in_words f in
+    omega (arith, packed_bound fs, length-append (packed e) (packed_all fs), length-take (needed (get_or e 8 0)) e)
+
+-- what is counted of entries is what they take
+measured : (es : List (List ℕ)) → ((i : ℕ) → i < length es → length (get_or es i []) ≡ 10) → sum_by (λ e. 1 + needed (get_or e 8 0)) es ≡ length (flat packed es)
+measured [] p = refl
 measured (e ∷ es) p =
-    let r = measured es (λ i h. p (suc i) (omega arith)) in
-    let c = sum_by-cons (λ e. 2 + needed (get_or e 8 0)) e es in
-    let l = length_packed e (omega (arith, p 0 (omega arith))) in
-    (omega (arith, r.0, c, l, length-append (packed e) (flat packed es)), omega (arith, r.1, c))
+    omega (
+      arith,
+      measured es (λ i h. p (suc i) (omega arith)),
+      sum_by-cons (λ e. 1 + needed (get_or e 8 0)) e es,
+      length_packed e (omega (arith, p 0 (omega arith))),
+      length-append (packed e) (flat packed es),
+    )
 
 pub measured_entries : (ws : List ℕ) (es : List (List ℕ)) → es ≡ tens (held ws) (drop 2 ws) →
-    (sum_by (λ e. 2 + needed (get_or e 8 0)) es ≡ length (flat packed es)) × (sum_by (λ e. 2 + needed (get_or e 8 0)) es ≤ 40960)
+    (sum_by (λ e. 1 + needed (get_or e 8 0)) es ≡ length (packed_all (entries_of ws))) × (length (packed_all (entries_of ws)) ≤ 36864)
 measured_entries ws es e =
     let n : length es ≡ held ws = ap length e ∙ length_tens (held ws) (drop 2 ws) in
     let m = measured es (λ i h. ap (λ xs. length (get_or xs i [])) e ∙ ap length (get_tens (held ws) i (drop 2 ws) (omega arith))
     ∙ length-take-le 10 (drop (10 * i) (drop 2 ws)) (omega (arith, held_within ws, length-drop (10 * i) (drop 2 ws)))) in
-    (m.0, omega (arith, m.1, n))
+    (m ∙ ap length (packed_entries ws es e), omega (arith, packed_bound (entries_of ws), length_cut (held ws) (drop 2 ws)))
 
--- new words right behind what was written before
-pub over_behind : (at : ℕ) (front was new out : List ℕ) → length front ≡ at → out ≡ front ++ drop at was → over at new out ≡ (front ++ new) ++ drop (at + length new) was
-over_behind at front was new out l e =
-    ap (over at new) e
-    ∙ ap₂ (λ u v. u ++ (new ++ v)) (take_at front (drop at was) at l)
-    (sym (drop-drop (length new) at (front ++ drop at was)) ∙ ap (drop (length new)) (drop_at front (drop at was) at l) ∙ drop-drop (length new) at was)
-    ∙ sym (append_assoc front new (drop (at + length new) was))
+-- WRITING ONE THING BEHIND ANOTHER
 
--- two words and then others
-pub pack_over : (at k m r s : ℕ) (e out new : List ℕ) → m ≡ k → new ≡ take k e → at + 2 + k ≤ length out → k ≤ length e →
-    put_mid (at + 2) m (set (set out at r) (at + 1) s) new ≡ over at (r ∷ s ∷ take k e) out
-pack_over at k m r s e out new em en l h =
-    let o1 : List ℕ = set out at r in
-    let two : at + 1 + 1 ≡ at + 2 = omega arith in
-    let front : take (at + 2) (set o1 (at + 1) s) ≡ take at out ++ r ∷ s ∷ [] =
-    ap (λ n. take n (set o1 (at + 1) s)) (sym two) ∙ take_more_set o1 (at + 1) s (omega (arith, length-set out at r))
-    ∙ ap (λ u. u ++ s ∷ []) (take_more_set out at r (omega arith)) ∙ append_assoc (take at out) (r ∷ []) (s ∷ []) in
-    let n : at + 2 + k ≡ at + (2 + length (take k e)) = omega (arith, length-take-le k e h) in
-    let back : drop k (drop (at + 2) (set o1 (at + 1) s)) ≡ drop (at + length (r ∷ s ∷ take k e)) out =
-    drop-drop k (at + 2) (set o1 (at + 1) s) ∙ drop-set-lt (at + 2 + k) o1 (at + 1) s (omega arith) ∙ drop-set-lt (at + 2 + k) out at r (omega arith)
-    ∙ (let q : at + 2 + k ≡ at + length (r ∷ s ∷ take k e) = omega (arith, length-take-le k e h) in ap (λ i. drop i out) q) in
-    ap₂ (λ i u. put_mid (at + 2) i (set o1 (at + 1) s) u) em en ∙ ap₂ (λ u v. u ++ (take k e ++ v)) front back
-    ∙ append_assoc (take at out) (r ∷ s ∷ []) (take k e ++ drop (at + length (r ∷ s ∷ take k e)) out)
+-- new words right behind what was written from a place on
+pub over_more : (start at : ℕ) (front all new was out : List ℕ) → all ≡ front ++ new → at ≡ start + length front → at ≤ length was → out ≡ over start front was →
+    over at new out ≡ over start all was
+over_more start at front all new was out ea e l eo =
+    let before : List ℕ = take start was ++ front in
+    let lb : length before ≡ at = omega (arith, length-append (take start was) front, length-take start was) in
+    let is : out ≡ before ++ drop at was = eo ∙ ap (λ i. take start was ++ (front ++ drop i was)) (sym e) ∙ sym (append_assoc (take start was) front (drop at was)) in
+    let back : drop (at + length new) (before ++ drop at was) ≡ drop (at + length new) was =
+    sym (drop-drop (length new) at (before ++ drop at was)) ∙ ap (drop (length new)) (drop_at before (drop at was) at lb) ∙ drop-drop (length new) at was in
+    let n : at + length new ≡ start + length (front ++ new) = omega (arith, length-append front new) in
+    ap (over at new) is ∙ ap₂ (λ u v. u ++ (new ++ v)) (take_at before (drop at was) at lb) back
+    ∙ append_assoc (take start was) front (new ++ drop (at + length new) was) ∙ ap (λ u. take start was ++ u) (sym (append_assoc front new (drop (at + length new) was)))
+    ∙ ap (λ i. take start was ++ ((front ++ new) ++ drop i was)) n ∙ ap (λ u. over start u was) (sym ea)
 
--- three words in front
-three_front : (out b p : List ℕ) (h n w : ℕ) → 3 ≤ length out →
-    b ≡ p ++ drop (length p) (take (length (set (set (set out 0 h) 1 n) 2 w) - 3) (drop 3 (set (set (set out 0 h) 1 n) 2 w))) →
-    put_mid 3 (length (set (set (set out 0 h) 1 n) 2 w) - 3) (set (set (set out 0 h) 1 n) 2 w) b ≡ (h ∷ n ∷ w ∷ p) ++ drop (3 + length p) out
-three_front [] b p h n w l e = absurd (omega arith)
-three_front (x ∷ []) b p h n w l e = absurd (omega arith)
-three_front (x ∷ y ∷ []) b p h n w l e = absurd (omega arith)
-three_front (x ∷ y ∷ z ∷ r) b p h n w l e =
-    let k : suc (suc (suc (length r))) - 3 ≡ length r = omega arith in
-    let m : 3 + length p ≡ suc (suc (suc (length p))) = omega arith in
-    ap (λ i. h ∷ n ∷ w ∷ (b ++ drop i r)) k ∙ ap (λ u. h ∷ n ∷ w ∷ (b ++ u)) (drop_all (length r) r (omega arith)) ∙ ap (λ u. h ∷ n ∷ w ∷ u) (append-nil b ∙ e)
-    ∙ ap (λ i. h ∷ n ∷ w ∷ (p ++ drop (length p) (take i r))) k ∙ ap (λ u. h ∷ n ∷ w ∷ (p ++ drop (length p) u)) (take_all (length r) r (omega arith))
-    ∙ ap (λ i. h ∷ n ∷ w ∷ (p ++ drop i (x ∷ y ∷ z ∷ r))) (sym m)
+-- a word is written so
+pub set_over : (out : List ℕ) (at x : ℕ) → at < length out → set out at x ≡ over at (x ∷ []) out
+set_over out at x h =
+    sym (take-append-drop (at + 1) (set out at x)) ∙ ap₂ (λ u v. u ++ v) (take_more_set out at x h) (drop-set-lt (at + 1) out at x (omega arith))
+    ∙ append_assoc (take at out) (x ∷ []) (drop (at + 1) out)
 
-pub squeeze_done : (ws out b p : List ℕ) (h n w t : ℕ) → p ≡ packed_all (entries_of ws) → t ≡ 3 + length p → t ≤ length out → h ≡ heading t → n ≡ held ws → w ≡ get_or ws 1 0 →
-    b ≡ p ++ drop (length p) (take (length (set (set (set out 0 h) 1 n) 2 w) - 3) (drop 3 (set (set (set out 0 h) 1 n) 2 w))) →
-    (Some t ≡ squeeze_answer ws out) × (put_mid 3 (length (set (set (set out 0 h) 1 n) 2 w) - 3) (set (set (set out 0 h) 1 n) 2 w) b ≡ squeeze_into ws out)
+-- a word and then others
+pub pack_over : (at k m s : ℕ) (e out new : List ℕ) → m ≡ k → new ≡ take k e → at + 1 + k ≤ length out → k ≤ length e →
+    put_mid (at + 1) m (set out at s) new ≡ over at (s ∷ take k e) out
+pack_over at k m s e out new em en l h =
+    let o : List ℕ = set out at s in
+    let n : length new ≡ m = ap length en ∙ length-take-le k e h ∙ sym em in
+    ap (λ u. take (at + 1) o ++ (new ++ u)) (drop-drop m (at + 1) o ∙ ap (λ i. drop (at + 1 + i) o) (sym n))
+    ∙ over_more at (at + 1) (s ∷ []) (s ∷ take k e) new out (set out at s) (ap (λ u. s ∷ u) (sym en)) refl (omega arith) (set_over out at s (omega arith))
+
+-- all parts of a stored row
+all_over : (h w n : ℕ) (rs p out o₁ o₂ : List ℕ) → length rs ≡ n → 3 + n + length p ≤ length out →
+    o₁ ≡ over 2 rs (set (set out 0 h) 1 0) → o₂ ≡ over (3 + n) p (set o₁ (2 + n) w) → o₂ ≡ over 0 (h ∷ 0 ∷ (rs ++ (w ∷ p))) out
+all_over h w n rs p out o₁ o₂ ln l e₁ e₂ =
+    let two : set (set out 0 h) 1 0 ≡ over 0 (h ∷ 0 ∷ []) out =
+    set_over (set out 0 h) 1 0 (omega (arith, length-set out 0 h)) ∙ over_more 0 1 (h ∷ []) (h ∷ 0 ∷ []) (0 ∷ []) out (set out 0 h) refl refl (omega arith) (set_over out 0 h (omega arith)) in
+    let three : o₁ ≡ over 0 (h ∷ 0 ∷ rs) out = e₁ ∙ over_more 0 2 (h ∷ 0 ∷ []) (h ∷ 0 ∷ rs) rs out (set (set out 0 h) 1 0) refl refl (omega arith) two in
+    let long : length o₁ ≡ length out =
+    ap length e₁ ∙ length_over 2 rs (set (set out 0 h) 1 0) (omega (arith, length-set (set out 0 h) 1 0, length-set out 0 h)) ∙ length-set (set out 0 h) 1 0 ∙ length-set out 0 h in
+    let four : set o₁ (2 + n) w ≡ over 0 (h ∷ 0 ∷ (rs ++ w ∷ [])) out =
+    set_over o₁ (2 + n) w (omega arith) ∙ over_more 0 (2 + n) (h ∷ 0 ∷ rs) (h ∷ 0 ∷ (rs ++ w ∷ [])) (w ∷ []) out o₁ refl (omega arith) (omega arith) three in
+    e₂ ∙ over_more 0 (3 + n) (h ∷ 0 ∷ (rs ++ w ∷ [])) (h ∷ 0 ∷ (rs ++ (w ∷ p))) p out (set o₁ (2 + n) w)
+    (ap (λ u. h ∷ 0 ∷ u) (sym (append_assoc rs (w ∷ []) p))) (omega (arith, length-append rs (w ∷ []))) (omega arith) four
+
+pub length_squeezed : (ws : List ℕ) → length (squeezed ws) ≡ 3 + held ws + length (packed_all (entries_of ws))
+unfolding squeezed
+length_squeezed ws =
+    omega (arith, length-append (references ws) (get_or ws 1 0 ∷ packed_all (entries_of ws)), length_references (held ws) (drop 2 ws))
+
+pub squeeze_done : (ws out o₁ o₂ rs p : List ℕ) (h n w t : ℕ) → rs ≡ references ws → p ≡ packed_all (entries_of ws) → n ≡ held ws → t ≡ 3 + n + length p → t ≤ length out →
+    h ≡ heading 2 n t → w ≡ get_or ws 1 0 → o₁ ≡ over 2 rs (set (set out 0 h) 1 0) → o₂ ≡ over (3 + n) p (set o₁ (2 + n) w) →
+    (Some t ≡ squeeze_answer ws out) × (o₂ ≡ squeeze_into ws out)
 unfolding squeezed squeeze_answer squeeze_into
-squeeze_done ws out b p h n w t ep et l eh en ew e =
-    let q = packed_all (entries_of ws) in
-    let s : t ≡ length (squeezed ws) = omega (arith, ap length ep) in
+squeeze_done ws out o₁ o₂ rs p h n w t er ep en et l eh ew e₁ e₂ =
+    let st : t ≡ 3 + held ws + length (packed_all (entries_of ws)) = et ∙ ap₂ (λ i u. 3 + i + length u) en ep in
+    let s : t ≡ length (squeezed ws) = st ∙ sym (length_squeezed ws) in
     let f : leb (length (squeezed ws)) (length out) ≡ true = le-leb _ _ (omega arith) in
-    let head : h ≡ heading (3 + length q) = eh ∙ ap heading (et ∙ ap (λ u. 3 + length u) ep) in
-    let front : h ∷ n ∷ w ∷ p ≡ squeezed ws = λ i. head i ∷ en i ∷ ew i ∷ ep i in
-    let m : 3 + length p ≡ length (squeezed ws) = omega (arith, ap length ep) in (
+    let head : h ≡ heading 2 (held ws) (3 + held ws + length (packed_all (entries_of ws))) = eh ∙ ap₂ (heading 2) en st in
+    let all : h ∷ 0 ∷ (rs ++ (w ∷ p)) ≡ squeezed ws = λ i. head i ∷ 0 ∷ (er i ++ (ew i ∷ ep i)) in (
       ap Some s ∙ sym (pick_true (leb (length (squeezed ws)) (length out)) (Some (length (squeezed ws))) None f),
-      three_front out b p h n w (omega arith) e ∙ ap₂ (λ u i. u ++ drop i out) front m
+      all_over h w n rs p out o₁ o₂ (ap length er ∙ length_references (held ws) (drop 2 ws) ∙ sym en) (omega arith) e₁ e₂ ∙ ap (λ u. over 0 u out) all
+          ∙ ap (λ i. squeezed ws ++ drop i out) (zero-add (length (squeezed ws)))
           ∙ sym (pick_true (leb (length (squeezed ws)) (length out)) (squeezed ws ++ drop (length (squeezed ws)) out) out f),
     )
 
-pub squeeze_not : (ws out p : List ℕ) → p ≡ packed_all (entries_of ws) → length out < 3 + length p → (None ≡ squeeze_answer ws out) × (out ≡ squeeze_into ws out)
-unfolding squeezed squeeze_answer squeeze_into
-squeeze_not ws out p ep l =
-    let f : leb (length (squeezed ws)) (length out) ≡ false = lt-leb _ _ (omega (arith, ap length ep)) in (
+pub squeeze_not : (ws out : List ℕ) → length out < 3 + held ws + length (packed_all (entries_of ws)) → (None ≡ squeeze_answer ws out) × (out ≡ squeeze_into ws out)
+unfolding squeeze_answer squeeze_into
+squeeze_not ws out l =
+    let f : leb (length (squeezed ws)) (length out) ≡ false = lt-leb _ _ (omega (arith, length_squeezed ws)) in (
       sym (pick_false (leb (length (squeezed ws)) (length out)) (Some (length (squeezed ws))) None f),
       sym (pick_false (leb (length (squeezed ws)) (length out)) (squeezed ws ++ drop (length (squeezed ws)) out) out f),
     )

@@ -5,25 +5,16 @@ use Rattle.trees.proofs.StoredLaws.{length_packed, pack_over}
 use Rattle.trees.proofs.stored.pack.Goals as goal
 
 -- how many words are written
-size : (e : List ℕ) (k : ℕ) → length e ≡ 10 → k ≡ needed (get_or e 8 0) → length (packed e) ≡ 2 + k
-size e k l h = length_packed e (omega arith) ∙ ap (λ n. 2 + n) (sym h)
+size : (e : List ℕ) (k : ℕ) → length e ≡ 10 → k ≡ needed (get_or e 8 0) → length (packed e) ≡ 1 + k
+size e k l h = length_packed e (omega arith) ∙ ap (λ n. 1 + n) (sym h)
 
 pub bounds-out-at : goal.bounds-out-at
 bounds-out-at c = omega (arith, c.requires, size c.args.entry.now _ c.told-entry c.path_words.ensures)
 
-pub bounds-out-at-2 : goal.bounds-out-at-2
-bounds-out-at-2 c = omega (arith, c.requires, size c.args.entry.now _ c.told-entry c.path_words.ensures, length-set c.args.out.now c.args.at (get_or c.args.entry.now 9 0))
-
 pub slice_bounds-copy_from_slice-end : goal.slice_bounds-copy_from_slice-end
 slice_bounds-copy_from_slice-end c =
     let out = c.args.out.now in let e = c.args.entry.now in
-    omega (
-      arith,
-      c.requires,
-      size e _ c.told-entry c.path_words.ensures,
-      length-set out c.args.at (get_or e 9 0),
-      length-set (set out c.args.at (get_or e 9 0)) (c.args.at + 1) (get_or e 8 0),
-    )
+    omega (arith, c.requires, size e _ c.told-entry c.path_words.ensures, length-set out c.args.at (get_or e 8 0))
 
 pub returns-clause-end : goal.returns-clause-end
 returns-clause-end c = omega (arith, size c.args.entry.now _ c.told-entry c.path_words.ensures)
@@ -33,6 +24,6 @@ unfolding packed
 returns-clause-words c =
     let k = c.path_words.result in let e = c.args.entry.now in let at = c.args.at in
     let s = size e k c.told-entry c.path_words.ensures in
-    let m : at + 2 + k - (at + 2) ≡ k = omega arith in
-    pack_over at k (at + 2 + k - (at + 2)) (get_or e 9 0) (get_or e 8 0) e c.args.out.now c.copy_from_slice.new.self m (c.copy_from_slice.ensures.after ∙ ap (λ i. take i e) m)
-    (omega (arith, c.requires, s)) (omega (arith, c.told-entry, c.path_words.ensures)) ∙ ap (λ i. over at (get_or e 9 0 ∷ get_or e 8 0 ∷ take i e) c.args.out.now) c.path_words.ensures
+    let m : at + 1 + k - (at + 1) ≡ k = omega arith in
+    pack_over at k (at + 1 + k - (at + 1)) (get_or e 8 0) e c.args.out.now c.copy_from_slice.new.self m (c.copy_from_slice.ensures.after ∙ ap (λ i. take i e) m)
+    (omega (arith, c.requires, s)) (omega (arith, c.told-entry, c.path_words.ensures)) ∙ ap (λ i. over at (get_or e 8 0 ∷ take i e) c.args.out.now) c.path_words.ensures
