@@ -107,11 +107,29 @@ fn comes_back(row: &[u64]) -> bool {
     let mut stored = [7; 41024];
     let mut again = [9; 41024];
     squeeze(row, &mut stored).is_some_and(|n| {
-        n <= 41024
+        n <= 40963
             && spread(&stored, &mut again)
             && same(row, &again)
             && weight(row) == weight(&again)
     })
+}
+
+// Whether a row of one file is stored word by word as the layout says: kind, files and words; nothing; the reference; the weight; the path's length, and the path.
+fn one_stored() -> bool {
+    let mut row = [0; 12];
+    let _ = put(&mut row, b"a", 7);
+    let mut stored = [9; 7];
+    squeeze(&row, &mut stored) == Some(6)
+        && stored
+            == [
+                562_954_248_388_614,
+                0,
+                7,
+                65,
+                1,
+                6_989_586_621_679_009_792,
+                9,
+            ]
 }
 
 // Steps on an empty row and an empty map.
@@ -206,6 +224,7 @@ fn main(rt: HostRuntime) -> anyhow::Result<()> {
     let mut tally = Tally::default();
     full(&mut row, &mut tally);
     tally.note(comes_back(&row));
+    tally.note(one_stored());
     println!(rt; "full: {tally}")?;
     let old = row;
     edit(&mut row);
