@@ -1,9 +1,9 @@
-use Rattle.std.proofs.Common.{◌≡◌, ◌+◌, ◌<◌, ◌≤◌, List, ℕ, [], length, get_or, drop, sym, ap, ◌∙◌, ap₂, rules, Decides}
+use Rattle.std.proofs.Common.{◌≡◌, ◌+◌, ◌<◌, List, ℕ, [], length, get_or, drop, sym, ◌∙◌, ap₂, rules, Decides}
 use Rattle.std.proofs.lemmas.Slice.Eq.{slice_eq-Decides}
 use Rattle.pages.specs.Lists.{each}
 use Rattle.trees.specs.Row.{as_entry}
 use Rattle.trees.specs.Differ.{meets}
-use Rattle.trees.proofs.DifferLaws.{file_at, file_past, meets_none, meets_words}
+use Rattle.trees.proofs.DifferLaws.{file_at, meets_words}
 use Rattle.std.proofs.lemmas.Bool.Decides.{Decides-eqb}
 use Rattle.trees.proofs.differences.alike.Goals as goal
 

@@ -1,4 +1,4 @@
-use Rattle.std.proofs.Common.{◌≡◌, ℕ, ◌+◌, ◌-◌, ◌∷◌, List, length, get_or, take, set, ap, sym, ◌∙◌, arith, length-set}
+use Rattle.std.proofs.Common.{◌≡◌, ℕ, ◌+◌, ◌-◌, ◌∷◌, List, length, get_or, take, ap, sym, ◌∙◌, arith, length-set}
 use Rattle.pages.specs.Words.{over}
 use Rattle.trees.specs.Packed.{needed, packed}
 use Rattle.trees.proofs.StoredLaws.{length_packed, pack_over}

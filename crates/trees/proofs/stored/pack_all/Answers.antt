@@ -1,4 +1,4 @@
-use Rattle.std.proofs.Common.{◌+◌, [], length, get_or, take, sym, ap, ◌∙◌, add-zero, arith, length-append, take-append-drop}
+use Rattle.std.proofs.Common.{◌+◌, [], length, get_or, take, ap, ◌∙◌, arith, length-append}
 use Rattle.pages.specs.Lists.{flat}
 use Rattle.trees.specs.Packed.{packed}
 use Rattle.trees.proofs.StoredLaws.{packed_push, packed_within, over_more}

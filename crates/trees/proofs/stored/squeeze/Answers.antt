@@ -1,4 +1,4 @@
-use Rattle.std.proofs.Common.{◌≡◌, ◌+◌, length, set, sym, ap, ◌∙◌, arith, length-set}
+use Rattle.std.proofs.Common.{◌+◌, length, set, sym, ap, ◌∙◌, arith, length-set}
 use Rattle.trees.proofs.StoredLaws.{measured_entries, packed_entries, references_entries, squeeze_done, squeeze_not}
 use Rattle.trees.proofs.stored.squeeze.Goals as goal
 
