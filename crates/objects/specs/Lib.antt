@@ -6,3 +6,4 @@ pub mod Room
 pub mod Marking
 pub mod Packing
 pub mod Sweeping
+pub mod Cells

@@ -2,6 +2,7 @@
 // live, the sweep that copies it, and how each kind of object is laid out.
 #![tactic(auto)]
 
+pub mod cells;
 pub mod laws;
 pub mod layouts;
 pub mod mark;

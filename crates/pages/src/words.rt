@@ -42,7 +42,7 @@ pub(crate) fn put_words(words: &[u64], out: &mut [u8])
 }
 
 // The first bytes of words, at the front of a row that has room for them.
-pub(crate) fn put_bytes(words: &[u64], bytes: usize, out: &mut [u8])
+pub fn put_bytes(words: &[u64], bytes: usize, out: &mut [u8])
     requires { (bytes ≤ 8 * length words.now) × (bytes ≤ length out.old) }
     ensures { out.new ≡ take bytes (bytes_of words.now) ++ drop bytes out.old }
 {

@@ -10,10 +10,10 @@ use crate::keys::Key;
 use crate::rows::count;
 use std::cmp::Ordering;
 
-pub(crate) type Entry = [u64; 10];
+pub type Entry = [u64; 10];
 
 // The entries that a row holds.
-pub(crate) fn entries(row: &[u64]) -> &[Entry]
+pub fn entries(row: &[u64]) -> &[Entry]
     ensures is { result.now ≡ tens (held row.now) (drop 2 row.now) }
     ensures many { length result.now ≡ held row.now }
 {

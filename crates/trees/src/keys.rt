@@ -7,7 +7,7 @@ ghost use Rattle.trees.specs.Row.{good_path, key_of};
 use pages::words::words_in;
 
 // A path as eight words, padded with zeros, and its length.
-pub(crate) type Key = [u64; 9];
+pub type Key = [u64; 9];
 
 // A path of at most 64 bytes with zeros behind it.
 fn padded(path: &[u8]) -> [u8; 64]
@@ -29,7 +29,7 @@ fn packed(bytes: &[u8; 64], size: u64) -> Key
 }
 
 // The key of a path of 1 to 64 bytes.
-pub(crate) fn key(path: &[u8]) -> Option<Key>
+pub fn key(path: &[u8]) -> Option<Key>
     ensures { result ≡ pick (good_path path.now) (Some (key_of path.now)) None }
 {
     if path.is_empty() || path.len() > 64 {

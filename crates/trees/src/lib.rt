@@ -2,8 +2,8 @@
 #![tactic(auto)]
 
 pub mod differences;
-mod entries;
-mod keys;
+pub mod entries;
+pub mod keys;
 pub mod laws;
 pub mod rows;
 pub mod stored;

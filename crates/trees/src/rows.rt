@@ -34,7 +34,7 @@ pub(crate) fn count(row: &[u64]) -> usize
 }
 
 // The reference at a key.
-fn find_key(row: &[u64], key: &Key) -> Option<u64>
+pub fn find_key(row: &[u64], key: &Key) -> Option<u64>
     ensures { result ≡ reference_in (found (entries_of row.now) key.now) }
 {
     let entries = entries(row);
@@ -50,7 +50,7 @@ pub fn find(row: &[u64], path: &[u8]) -> Option<u64>
 }
 
 // Puts an entry of this weight at its key.
-fn put_key(row: &mut [u64], key: &Key, weight: u64, reference: u64) -> Result<(), Refused>
+pub fn put_key(row: &mut [u64], key: &Key, weight: u64, reference: u64) -> Result<(), Refused>
     ensures answer { result ≡ pick (room_for key.now reference row.old) (Ok tt) (Err Full) }
     ensures after { row.new ≡ put_key key.now weight reference row.old }
 {
@@ -88,7 +88,7 @@ pub fn put(row: &mut [u64], path: &[u8], reference: u64) -> Result<(), Refused>
 }
 
 // Takes the entry of a key out; says whether there was one.
-fn take_key(row: &mut [u64], key: &Key, weight: u64) -> bool
+pub fn take_key(row: &mut [u64], key: &Key, weight: u64) -> bool
     ensures answer { result ≡ has_key key.now row.old }
     ensures after { row.new ≡ take_key key.now weight row.old }
 {
