@@ -6,4 +6,5 @@ pub mod Morning
 pub mod Simulation
 pub mod OnTape
 pub mod Client
+pub mod Control
 pub mod Entry

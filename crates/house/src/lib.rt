@@ -7,6 +7,8 @@ ghost use Rattle.pages.specs.Told.{event_meant};
 ghost use Rattle.std.specs.Prelude.{◌≡◌, ◌<◌, ◌≤◌, take, drop, MatchOption};
 
 pub mod client;
+pub mod control;
+mod desk;
 pub mod laws;
 pub mod promise;
 
