@@ -7,4 +7,5 @@ pub mod Simulation
 pub mod OnTape
 pub mod Client
 pub mod Control
+pub mod Shelf
 pub mod Entry
