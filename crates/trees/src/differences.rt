@@ -1,5 +1,5 @@
 // Where two tree rows differ.
-ghost use Rattle.std.specs.Prelude.{◌≡◌, ◌+◌, ◌*◌, ◌≤◌, ◌++◌, length, take, drop};
+ghost use Rattle.std.specs.Prelude.{◌≡◌, ◌+◌, ◌*◌, ◌≤◌, ◌∷◌, ◌++◌, length, take, drop};
 ghost use Rattle.pages.specs.Lists.{each};
 ghost use Rattle.trees.specs.Differ.{difference_from, difference_here, differs as told, meets, path_in, shown};
 ghost use Rattle.trees.specs.Row.{as_entry, path_of};
@@ -103,17 +103,25 @@ fn key_at(row: &[u64], i: usize) -> Key
     key
 }
 
+// A mark and the path of a key, in front of a row of bytes; says how many bytes that takes.
+fn show_file(mark: u8, key: &Key, out: &mut [u8; 65]) -> usize
+    ensures shown { take result out.new ≡ mark ∷ path_of key.now }
+    ensures many { result ≡ 1 + length (path_of key.now) }
+    ensures bound { result ≤ 65 }
+{
+    out[0] = mark;
+    1 + put_path(key, out)
+}
+
 // What is shown of a difference, in front of a row of bytes: 1 new, 2 changed, 3 gone, and then the path; says how many bytes that takes.
 pub fn show(old: &[u64], new: &[u64], place: Place, out: &mut [u8; 65]) -> usize
     ensures shown { take result out.new ≡ shown old.now new.now place }
     ensures many { result ≡ length (shown old.now new.now place) }
     ensures bound { result ≤ 65 }
 {
-    let (mark, key) = match place {
-        Place::New(at) => (1, key_at(new, at)),
-        Place::Changed(at) => (2, key_at(new, at)),
-        Place::Gone(at) => (3, key_at(old, at)),
-    };
-    out[0] = mark;
-    1 + put_path(&key, out)
+    match place {
+        Place::New(at) => show_file(1, &key_at(new, at), out),
+        Place::Changed(at) => show_file(2, &key_at(new, at), out),
+        Place::Gone(at) => show_file(3, &key_at(old, at), out),
+    }
 }
