@@ -8,3 +8,4 @@ pub mod Simulation
 pub mod OnTape
 pub mod Nothing
 pub mod Started
+pub mod ControlLaws

@@ -1,19 +1,24 @@
 // The house as a client of the tape, for the commands that keep sheets in work.
-ghost use Rattle.std.specs.Prelude.{◌≡◌, ◌+◌, ◌-◌, ◌*◌, ◌<◌, ◌≤◌, ◌&&◌, min, length, take, drop, Some, None};
+ghost use Rattle.std.specs.Prelude.{◌≡◌, ◌+◌, ◌<◌, ◌*◌, ◌≤◌, ◌++◌, ℕ, List, length, take, drop};
 ghost use Rattle.commands.specs.Meaning.{meaning};
 ghost use Rattle.commands.specs.Refusal.{number_of};
-ghost use Rattle.house.specs.Control.{again, compare, compared, control_client, desk_end, emptied, entry_weight, file_came, head_word, hearing, heard_of, kept as kept_of, laid_from, lay_file, lay_tree, lays, load, loaded, named, new_head, no_sum, old_row_at, old_row_of, opened, path_key, path_put, phase_code, phase_in, publish, recalled, reference_at, resumed, row_at, row_of, row_words, said_of, started, sum_key, survey, surveyed, surveying, survey_roots, sweeping, task_code, task_in, tight, window_of, with_row};
+ghost use Rattle.house.specs.Control.{again, compare, control_client, desk_end, emptied, entry_weight, file_came, head_word, hearing, heard_of, kept as kept_of, laid_from, lay_file, lay_tree, lays, load, loaded, named, opened, path_key, path_put, phase_code, phase_in, publish, recalled, reference_at, row_of, row_words, squeezed_in, started, sum_key, survey, surveyed, surveying, survey_roots, sweeping, task_code, task_in, tight, with_row};
 ghost use Rattle.house.specs.Entry.{own_sum};
-ghost use Rattle.objects.specs.Marking.{asked_on, begun, walked};
-ghost use Rattle.objects.specs.Sweeping.{swung};
-ghost use Rattle.pages.specs.Machine.{asked, capped};
+ghost use Rattle.objects.specs.Layouts.{file_read};
+ghost use Rattle.objects.specs.Marking.{asked_on, begun, walked, went_on, with_references};
+ghost use Rattle.objects.specs.Plan.{map_of, plan_end, with_map};
+ghost use Rattle.objects.specs.Sweeping.{sweep_went_on, swung};
+ghost use Rattle.pages.specs.Machine.{asked, buffer_words};
 ghost use Rattle.pages.specs.Words.{over};
 ghost use Rattle.pages.specs.declared.machine.Request.TheVariants.{Recall, Refuse as RefuseWith};
+ghost use Rattle.trees.specs.Packed.{spread_into, squeeze_answer, squeeze_into};
+ghost use Rattle.trees.specs.Row.{references};
 
 use crate::desk;
 use commands::{Command, Refusal, parse};
 use objects::cells::{sweep_cells, sweep_in, walk_cells, walk_in};
 use objects::mark::{Key, Walk};
+use objects::pack::copy_words;
 use objects::sweep::Sweep;
 use objects::{layouts, mark, plan, room};
 use pages::machine::{BUFFER, Client, Request};
@@ -216,23 +221,50 @@ fn reference_at(page: u64) -> u64
     page.saturating_mul(8).saturating_add(1)
 }
 
+// A row behind what is stored in front of it.
+fn spread_behind(front: &[u64], behind: &mut [u64])
+    requires { (buffer_words ≤ length front.now) × (row_words ≤ length behind.old) }
+    ensures { behind.new ≡ over 0 (spread_into (take buffer_words front.now) (take row_words behind.old)) behind.old }
+{
+    spread(&front[..BUFFER], &mut behind[..desk::ROW_WORDS]);
+}
+
 // The tree that was loaded stands in the row.
 fn spread_row(memory: &mut [u64])
     requires { desk_end ≤ length memory.old }
-    ensures { memory.new ≡ with_row (spread_into (take 41088 memory.old) (row_of memory.old)) memory.old }
+    ensures { memory.new ≡ with_row (spread_into (take buffer_words memory.old) (row_of memory.old)) memory.old }
 {
     let (front, behind) = memory.split_at_mut(desk::ROW);
-    spread(&front[..BUFFER], &mut behind[..desk::ROW_END - desk::ROW]);
+    spread_behind(front, behind);
+}
+
+// A row is stored in front of where it stands.
+fn squeeze_before(front: &mut [u64], behind: &[u64]) -> Option<usize>
+    requires { (buffer_words ≤ length front.old) × (row_words ≤ length behind.now) }
+    ensures answer { result ≡ squeeze_answer (take row_words behind.now) (take buffer_words front.old) }
+    ensures front { front.new ≡ squeeze_into (take row_words behind.now) (take buffer_words front.old) ++ drop buffer_words front.old }
+{
+    squeeze(&behind[..desk::ROW_WORDS], &mut front[..BUFFER])
 }
 
 // The row is stored in front of the buffer: how many words that takes.
 fn squeeze_row(memory: &mut [u64]) -> Option<usize>
     requires { desk_end ≤ length memory.old }
-    ensures answer { result ≡ squeeze_answer (row_of memory.old) (take 41088 memory.old) }
+    ensures answer { result ≡ squeeze_answer (row_of memory.old) (take buffer_words memory.old) }
     ensures memory { memory.new ≡ squeezed_in memory.old }
 {
     let (front, behind) = memory.split_at_mut(desk::ROW);
-    squeeze(&behind[..desk::ROW_END - desk::ROW], &mut front[..BUFFER])
+    squeeze_before(front, behind)
+}
+
+// Marks the files of a row behind the map.
+fn mark_files(front: &mut [u64], first: u64, behind: &[u64])
+    requires { (plan_end ≤ length front.old) × (row_words ≤ length behind.now) }
+    ensures { front.new ≡ with_map (with_references first (references (take row_words behind.now)) (map_of front.old)) front.old }
+{
+    for entry in entries(&behind[..desk::ROW_WORDS]) {
+        mark::mark_root(front, first, entry[9]);
+    }
 }
 
 // Marks what will be live: what the head names, but for the tree in work, and the files of the row.
@@ -244,9 +276,7 @@ fn mark_kept(memory: &mut [u64], first: u64)
     roots.copy_from_slice(&memory[plan::HEAD + 3..plan::HEAD + 10]);
     let (front, behind) = memory.split_at_mut(desk::ROW);
     mark::mark_roots(front, first, &roots);
-    for entry in entries(&behind[..desk::ROW_END - desk::ROW]) {
-        mark::mark_root(front, first, entry[9]);
-    }
+    mark_files(front, first, behind);
 }
 
 fn refuse(why: Refusal) -> Request
@@ -274,7 +304,7 @@ impl Control {
     // What is said is put aside.
     fn take(&mut self, memory: &mut [u64], command: Option<Command<'_>>) -> Request
         requires { desk_end ≤ length memory.old }
-        ensures { asked self.new memory.new result ≡ heard_of own_sum self.old memory.old (meaning command) }
+        ensures { asked self.new memory.new result ≡ heard_of own_sum self.old memory.old (meaning command.entry) }
     {
         let Some(command) = command else {
             return refuse(Refusal::NoCommand);
@@ -304,7 +334,7 @@ impl Control {
         requires { desk_end ≤ length memory.old }
         ensures { asked self.new memory.new result ≡ publish self.old memory.old page root }
     {
-        memory.copy_within(plan::HEAD..plan::HEAD + 32, 0);
+        copy_words(memory, plan::HEAD, 0, 32);
         memory[1] = page;
         memory[2] = root;
         self.phase = Phase::Publishing;
@@ -556,7 +586,7 @@ impl Control {
         requires { desk_end ≤ length memory.old }
         ensures { asked self.new memory.new result ≡ recalled self.old (over 41152 (take 32 memory.old) memory.old) }
     {
-        memory.copy_within(0..32, plan::HEAD);
+        copy_words(memory, 0, plan::HEAD, 32);
         if self.task.lays() && self.is_tight(memory) {
             let request = self.sweep.begin(memory);
             return self.swept(request);
@@ -581,7 +611,7 @@ impl Control {
             return refuse(Refusal::NotKnown);
         };
         let bytes = bytes.min(65_535);
-        memory.copy_within(6..6 + bytes.div_ceil(8) as usize, 0);
+        copy_words(memory, 6, 0, bytes.div_ceil(8) as usize);
         self.phase = Phase::Showing;
         Request::Show { bytes }
     }

@@ -4,6 +4,8 @@ use objects::plan;
 // The row of the tree in work.
 pub const ROW: usize = 188_640;
 
+pub const ROW_WORDS: usize = 40_962;
+
 pub const ROW_END: usize = 229_602;
 
 // The key of the command's path.
