@@ -9,3 +9,4 @@ pub mod OnTape
 pub mod Nothing
 pub mod Started
 pub mod ControlLaws
+pub mod ControlSteps
