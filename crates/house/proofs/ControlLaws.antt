@@ -1,554 +1,185 @@
--- The house that keeps sheets in work as a client of the tape: its cells hold it, memory keeps its length, numbers stay below 2^64. Assumes nothing.
-use Rattle.std.proofs.Common.{◌≡◌, ℕ, zero, suc, ◌+◌, ◌-◌, ◌*◌, ◌^◌, ◌<◌, ◌≤◌, min, true, ◌&&◌, eqb, ltb, leb, List, [], ◌∷◌, ◌++◌, length, get_or, take, drop, set, Some, None, Option, sym, refl, ap, ap₂, ◌∙◌, subst₂, arith, length-append, length-drop, length-take}
-use Rattle.std.proofs.lemmas.Bool.{ltb-false, leb-true, and_parts}
-use Rattle.std.proofs.lemmas.List.{length-take-le, take-append-drop}
-use Rattle.pages.specs.Bytes.{all_bytes}
-use Rattle.pages.specs.Lists.{pick, every, same, earlier, zeros}
-use Rattle.pages.specs.Words.{over, small, words}
-use Rattle.pages.specs.Engine.{Small, Lawful, request_cells}
-use Rattle.pages.specs.Machine.{Asked, asked, capped, buffer_words}
-use Rattle.pages.specs.Object.{heading}
-use Rattle.pages.specs.declared.machine.Request.{Request}
-use Rattle.pages.specs.declared.machine.Request.TheVariants.{Recall, Object, Lay, Publish, Show, Done, Refuse}
-use Rattle.pages.proofs.BytesLaws.{all_bytes_append}
-use Rattle.pages.proofs.ListLaws.{pick_both}
-use Rattle.pages.proofs.WordLaws.{small_append, small_take, small_drop, small_zeros, small_over, small_from, small_get_or, length_words, length_zeros, words_small}
-use Rattle.store.proofs.BitLaws.{small_set}
-use Rattle.objects.specs.Plan.{head_at}
-use Rattle.objects.specs.Layouts.{words_for, words_at, packed_bytes, bytes_put, bytes_stand, file_read}
-use Rattle.objects.specs.Marking.{Turn, asked_on, begun, key_words, sought, went_on}
-use Rattle.objects.specs.Sweeping.{sweep_begun, sweep_went_on}
-use Rattle.objects.specs.Cells.{sweep_cells, sweep_in, walk_cells, walk_in, asked_cells}
-use Rattle.objects.specs.Room.{quarter}
-use Rattle.objects.specs.declared.mark.Key.{Key}
-use Rattle.objects.specs.declared.mark.Walk.{Walk}
-use Rattle.objects.specs.declared.sweep.Sweep.{Sweep}
-use Rattle.objects.proofs.LayoutLaws.{as_many, at_most}
-use Rattle.objects.proofs.SmallLaws.{SmallTurn, Bounded, bounded, bounded_over, bounded_begun, sweep_kept, small_walk_in, small_sweep_in, sought_length, sought_small, went_on_length, went_on_small, sweep_begun_length, sweep_begun_small, sweep_went_on_length, sweep_went_on_small}
-use Rattle.trees.specs.Tree.{Tree, found}
-use Rattle.trees.specs.Row.{room, good_path, key_of, entries_of, has_key, put_key, reference_in, room_for, take_key}
-use Rattle.trees.specs.Packed.{spread_into, squeezed, squeeze_answer, squeeze_into}
-use Rattle.trees.specs.Differ.{difference_here, first_difference, difference_from, meets, differs, shown}
-use Rattle.trees.specs.declared.differences.Cursor.{Cursor}
-use Rattle.trees.specs.declared.differences.Difference.{Difference}
-use Rattle.trees.specs.declared.differences.Place.TheVariants.{New, Changed, Gone}
-use Rattle.trees.proofs.PackLaws.{length_key, proper_parts}
-use Rattle.trees.proofs.RowLaws.{length_cut}
-use Rattle.trees.proofs.RowParts.{length_put_key, length_take_key, length_spread_into, length_squeeze_into, small_put_key, small_take_key, small_spread_into, small_squeeze_into}
-use Rattle.history.specs.Book.{Sum}
-use Rattle.commands.specs.Command.{Command, write_file, drop_file, commit, branch, go_to, history, show_file, status, read_file, join, settle, leave, move_onto, carry, forget, tag, who, sweep as sweep_command, fetch, fits, a_name, a_text}
-use Rattle.commands.specs.Parse.{parsed, Answers}
-use Rattle.commands.proofs.ParseLaws.{answered}
-use Rattle.house.specs.Control.{row_at, row_words, path_at, bytes_at, desk_end, old_row_at, row_of, with_row, old_row_of, path_key, entry_weight, emptied, head_word, kept, control, at_phase, sweeping, surveying, laying, comparing, hearing, task_code, task_in, phase_code, phase_in, control_loads, control_saves, sum_key, no_sum, path_put, said_of, heard_of, control_hears, control_wakes, new_head, publish, pages_of, laid_from, reference_at, squeezed_in, tree_put, lay_tree, named, file_in, lay_file, survey_roots, surveyed, window_of, survey, compared, compare, opened, loaded, load, lays, tight, again, started, recalled, file_came, resumed, control_resumes, control_client}
-use Rattle.house.specs.declared.control.Control.{Control}
-use Rattle.house.specs.declared.control.Phase.{Phase}
-use Rattle.house.specs.declared.control.Phase.TheVariants.{Resting, Recalling, Sweeping, Loading, Surveying, LayingFile, LayingTree, Publishing, Opening, Showing, Comparing}
-use Rattle.house.specs.declared.control.Task.{Task}
-use Rattle.house.specs.declared.control.Task.TheVariants.{Nothing, Write, Drop, Read, Status, Leave}
-use Rattle.house.proofs.Sheets.{shown_fits, text_parts}
+-- The control's steps in memory, and its branches. Assumes nothing.
+use Rattle.std.proofs.Common.{◌≡◌, ℕ, ◌+◌, ◌-◌, ◌*◌, ◌<◌, ◌≤◌, true, false, Bool, ltb, List, [], ◌∷◌, ◌++◌, length, get_or, take, drop, Some, None, Option, sym, refl, ap, ◌∙◌, ap₂, arith, append_assoc, length-drop, length-append}
+use Rattle.std.proofs.Math.ListN.{set}
+use Rattle.std.proofs.lemmas.List.{get_or-drop, get_or-take, length-take, length-take-le, take_at, take_all, drop_at, drop-drop, drop-take, take-take, take-append-drop, take_more}
+use Rattle.std.proofs.lemmas.Bool.{le-ltb}
+use borrow.Rule.Slice.PartMut.{put_mid}
+use Rattle.pages.specs.Lists.{pick, each, zeros}
+use Rattle.pages.specs.Words.{over}
+use Rattle.pages.specs.Machine.{buffer_words}
+use Rattle.pages.proofs.ListLaws.{each_append, pick_false}
+use Rattle.pages.proofs.WordLaws.{length_zeros}
+use Rattle.objects.specs.Plan.{head_at, map_at, map_words, plan_end, map_of, with_map}
+use Rattle.objects.specs.Marking.{begun, rooted, with_reference, with_references}
+use Rattle.objects.proofs.MarkLaws.{length_with_references}
+use Rattle.objects.proofs.PlanLaws.{put_over, length_map_of, length_with_map, map_of_with_map, with_map_again, with_map_same}
+use Rattle.trees.specs.Row.{as_entry, good_path, held, key_of, reference_of, references, tens}
+use Rattle.trees.proofs.EntryLaws.{entries_are}
+use Rattle.trees.proofs.StoredLaws.{each_each}
+use Rattle.trees.specs.Packed.{spread_into, squeeze_into, squeeze_answer}
+use Rattle.house.specs.Control.{desk_end, new_head, row_at, row_words, row_of, with_row, path_at, path_put, squeezed_in}
 
--- CELLS
-Few : Control → Type 0
-Few k = small (control_saves k) ≡ true
+-- A FRONT OF MEMORY, and what is behind it
+dropped_front : (g p : ℕ) (m : List ℕ) → g ≤ p → drop g (take p m) ++ drop p m ≡ drop g m
+dropped_front g p m h =
+    let e : g + (p - g) ≡ p = omega arith in
+    ap₂ (λ x y. x ++ y) (ap (λ n. drop g (take n m)) (sym e) ∙ drop-take g (p - g) m) (ap (λ n. drop n m) (sym e) ∙ sym (drop-drop (p - g) g m))
+    ∙ take-append-drop (p - g) (drop g m)
 
--- a code stands for what it was made of, and is small
-task_kept : (t : Task) → (task_in (task_code t) ≡ t) × (task_code t < 2 ^ 64)
-task_kept Nothing = (refl, omega arith)
-task_kept Write = (refl, omega arith)
-task_kept Drop = (refl, omega arith)
-task_kept Read = (refl, omega arith)
-task_kept Status = (refl, omega arith)
-task_kept Leave = (refl, omega arith)
+-- words over a front are words over all of it
+pub over_in_front : (g p : ℕ) (ws m : List ℕ) → g + length ws ≤ p → over g ws (take p m) ++ drop p m ≡ over g ws m
+over_in_front g p ws m h =
+    append_assoc (take g (take p m)) (ws ++ drop (g + length ws) (take p m)) (drop p m)
+    ∙ ap₂ (λ x y. x ++ y) (take-take g p m (omega arith))
+    (append_assoc ws (drop (g + length ws) (take p m)) (drop p m) ∙ ap (λ y. ws ++ y) (dropped_front (g + length ws) p m h))
 
-phase_kept : (p : Phase) → (phase_in (phase_code p) ≡ p) × (phase_code p < 2 ^ 64)
-phase_kept Resting = (refl, omega arith)
-phase_kept Recalling = (refl, omega arith)
-phase_kept Sweeping = (refl, omega arith)
-phase_kept Loading = (refl, omega arith)
-phase_kept Surveying = (refl, omega arith)
-phase_kept LayingFile = (refl, omega arith)
-phase_kept LayingTree = (refl, omega arith)
-phase_kept Publishing = (refl, omega arith)
-phase_kept Opening = (refl, omega arith)
-phase_kept Showing = (refl, omega arith)
-phase_kept Comparing = (refl, omega arith)
+-- ROWS
 
-control_kept : (k : Control) → control_loads (control_saves k) ≡ k
-unfolding control_saves
-control_kept k =
-    ap (λ t. control k.house k.houses k.pages t (phase_in (phase_code k.phase)) k.bytes k.sum k.page k.root k.cursor (sweep_in (sweep_cells k.sweep)) k.walk) (task_kept k.task).0
-    ∙ ap (λ p. control k.house k.houses k.pages k.task p k.bytes k.sum k.page k.root k.cursor (sweep_in (sweep_cells k.sweep)) k.walk) (phase_kept k.phase).0
-    ∙ ap (λ s. control k.house k.houses k.pages k.task k.phase k.bytes k.sum k.page k.root k.cursor s k.walk) (sweep_kept k.sweep)
+pub length_row : (m : List ℕ) → desk_end ≤ length m → length (row_of m) ≡ row_words
+length_row m h = length-take-le row_words (drop row_at m) (omega (arith, length-drop row_at m))
 
-control_long : (k : Control) → length (control_saves k) ≡ 120
-unfolding control_saves
-control_long k = omega (arith, length_zeros 83)
+-- the row's part of memory is written
+pub row_written : (m new ws : List ℕ) → desk_end ≤ length m → length new ≡ length (row_of m) → new ≡ ws → put_mid row_at row_words m new ≡ with_row ws m
+row_written m new ws h l e = put_over row_at row_words new m (l ∙ length_row m h) ∙ ap (λ x. over row_at x m) e
 
-loads_few : (cs : List ℕ) → small cs ≡ true → Few (control_loads cs)
-unfolding Few control_saves
-loads_few cs h =
-    small_from _ _ (at 0) (small_from _ _ (at 1) (small_from _ _ (at 2) (small_from _ _ (task_kept (task_in (get_or cs 3 0))).1 (small_from _ _ (phase_kept (phase_in (get_or cs 4 0))).1
-    (small_from _ _ (at 5) (small_from _ _ (at 6) (small_from _ _ (at 7) (small_from _ _ (at 8) (small_from _ _ (at 9)
-    (small_from _ _ (at 10) (small_from _ _ (at 11) (small_from _ _ (at 12) (small_from _ _ (at 13)
-    (small_append (sweep_cells s) (walk_cells w ++ zeros 83) (small_sweep_in (take 14 (drop 14 cs)) (small_take 14 (drop 14 cs) (small_drop 14 cs h)))
-    (small_append (walk_cells w) (zeros 83) (small_walk_in (take 9 (drop 28 cs)) (small_take 9 (drop 28 cs) (small_drop 28 cs h))) (small_zeros 83))))))))))))))))
+-- the same behind a memory's front
+pub behind_written : (b new ws : List ℕ) → row_words ≤ length b → length new ≡ length (take row_words b) → new ≡ ws → new ++ drop row_words b ≡ over 0 ws b
+behind_written b new ws h l e = put_over 0 row_words new b (l ∙ length-take-le row_words b h) ∙ ap (λ x. over 0 x b) e
+
+-- a front that stays, and a row over the rest
+pub row_behind : (m front back ws : List ℕ) → front ≡ take row_at m → back ≡ drop row_at m → front ++ over 0 ws back ≡ with_row ws m
+row_behind m front back ws f b =
+    ap₂ (λ x y. x ++ (ws ++ drop (0 + length ws) y)) f b ∙ ap (λ y. take row_at m ++ (ws ++ y)) (drop-drop (0 + length ws) row_at m ∙ ap (λ n. drop n m) n)
   where
-    at : (i : ℕ) → get_or cs i 0 < 2 ^ 64
-    at i = small_get_or cs i h
+    n : row_at + (0 + length ws) ≡ row_at + length ws
+    n = omega arith
 
-    s : Sweep
-    s = sweep_in (take 14 (drop 14 cs))
+pub spread_behind_front : (m front back new : List ℕ) → front ≡ take row_at m → back ≡ drop row_at m →
+    new ≡ over 0 (spread_into (take buffer_words front) (take row_words back)) back →
+    front ++ new ≡ with_row (spread_into (take buffer_words m) (row_of m)) m
+spread_behind_front m front back new f b e =
+    ap (λ x. front ++ x) e ∙ row_behind m front back (spread_into (take buffer_words front) (take row_words back)) f b
+    ∙ ap₂ (λ x y. with_row (spread_into (take buffer_words x) (take row_words y)) m) f b
+    ∙ ap (λ x. with_row (spread_into x (row_of m)) m) (take-take buffer_words row_at m (omega arith))
 
-    w : Walk
-    w = walk_in (take 9 (drop 28 cs))
+pub squeezed_before : (m front back new : List ℕ) → front ≡ take row_at m → back ≡ drop row_at m →
+    new ≡ squeeze_into (take row_words back) (take buffer_words front) ++ drop buffer_words front →
+    new ++ back ≡ squeezed_in m
+squeezed_before m front back new f b e =
+    let short : take buffer_words front ≡ take buffer_words m = ap (take buffer_words) f ∙ take-take buffer_words row_at m (omega arith) in
+    let rest : drop buffer_words front ++ back ≡ drop buffer_words m =
+    ap₂ (λ x y. drop buffer_words x ++ y) f b ∙ dropped_front buffer_words row_at m (omega arith) in
+    ap (λ x. x ++ back) e ∙ append_assoc (squeeze_into (take row_words back) (take buffer_words front)) (drop buffer_words front) back
+    ∙ ap₂ (λ x y. x ++ y) (ap₂ squeeze_into (ap (take row_words) b) short) rest
 
-wakes_few : (k : Control) (c hs ps : ℕ) → Few k → Few (control_wakes k c hs ps)
-unfolding Few control_saves small
-wakes_few k c hs ps h =
-    small_from (capped c) (capped hs ∷ capped ps ∷ others) (omega arith) (small_from (capped hs) (capped ps ∷ others) (omega arith)
-    (small_from (capped ps) others (omega arith) (small_drop 14 (control_saves k) h)))
+pub squeezed_says : (m front back : List ℕ) (r : Option ℕ) → front ≡ take row_at m → back ≡ drop row_at m →
+    r ≡ squeeze_answer (take row_words back) (take buffer_words front) → r ≡ squeeze_answer (row_of m) (take buffer_words m)
+squeezed_says m front back r f b e =
+    e ∙ ap₂ squeeze_answer (ap (take row_words) b) (ap (take buffer_words) f ∙ take-take buffer_words row_at m (omega arith))
+
+-- the path's key is put aside
+pub path_written : (p m k new : List ℕ) (r : Option (List ℕ)) → desk_end ≤ length m → length new ≡ length (take 9 (drop path_at m)) → r ≡ Some k →
+    r ≡ pick (good_path p) (Some (key_of p)) None → new ≡ k → put_mid path_at 9 m new ≡ path_put p m
+path_written p m k new r h l s e n = go (good_path p) (sym s ∙ e)
   where
-    others : List ℕ
-    others = 0 ∷ 0 ∷ 0 ∷ 0 ∷ 0 ∷ 0 ∷ 0 ∷ 0 ∷ 0 ∷ 0 ∷ 0 ∷ drop 14 (control_saves k)
-
-module _ (k : Control) (h : Few k) where
-  phase_few : (p : Phase) → Few (at_phase p k)
-  unfolding Few control_saves
-  phase_few p = small_set (control_saves k) 4 (phase_code p) h (phase_kept p).1
-
-  sweeping_few : (s : Sweep) → small (sweep_cells s) ≡ true → Few (sweeping k s)
-  unfolding Few control_saves
-  sweeping_few s c = small_over 14 (sweep_cells s) (control_saves (at_phase Sweeping k)) c (phase_few Sweeping)
-
-  surveying_few : (w : Walk) → small (walk_cells w) ≡ true → Few (surveying k w)
-  unfolding Few control_saves
-  surveying_few w c = small_over 28 (walk_cells w) (control_saves (at_phase Surveying k)) c (phase_few Surveying)
-
-  laying_few : (p : Phase) (page root : ℕ) → page < 2 ^ 64 → root < 2 ^ 64 → Few (laying p page root k)
-  unfolding Few control_saves
-  laying_few p page root a b = small_set (set (control_saves (at_phase p k)) 6 page) 7 root (small_set (control_saves (at_phase p k)) 6 page (phase_few p) a) b
-
-  comparing_few : (c : Cursor) → c.old < 2 ^ 64 → c.new < 2 ^ 64 → Few (comparing c k)
-  unfolding Few control_saves
-  comparing_few c a b =
-      small_set (set (control_saves (at_phase Comparing k)) 8 c.old) 9 c.new (small_set (control_saves (at_phase Comparing k)) 8 c.old (phase_few Comparing) a) b
-
-  hearing_few : (t : Task) (bytes : ℕ) (s : Key) → bytes < 2 ^ 64 → small (key_words s) ≡ true → Few (hearing t bytes s k)
-  unfolding Few control_saves small
-  hearing_few t bytes s b c =
-      small_over 8 (0 ∷ 0 ∷ key_words s) (set (set (control_saves (at_phase Recalling k)) 3 (task_code t)) 5 bytes) c
-      (small_set (set (control_saves (at_phase Recalling k)) 3 (task_code t)) 5 bytes
-      (small_set (control_saves (at_phase Recalling k)) 3 (task_code t) (phase_few Recalling) (task_kept t).1) b)
-
-  sum_few : small (key_words k.sum) ≡ true
-  unfolding Few control_saves
-  sum_few = small_take 4 (drop 10 (control_saves k)) (small_drop 10 (control_saves k) h)
-
-  page_few : k.page < 2 ^ 64
-  unfolding Few control_saves
-  page_few = small_get_or (control_saves k) 6 h
-
-  root_few : k.root < 2 ^ 64
-  unfolding Few control_saves
-  root_few = small_get_or (control_saves k) 7 h
-
-  cursor_few : (k.cursor.old < 2 ^ 64) × (k.cursor.new < 2 ^ 64)
-  unfolding Few control_saves
-  cursor_few = (small_get_or (control_saves k) 8 h, small_get_or (control_saves k) 9 h)
-
-  sweep_few : small (sweep_cells k.sweep) ≡ true
-  unfolding Few control_saves
-  sweep_few = small_take 14 (drop 14 (control_saves k)) (small_drop 14 (control_saves k) h)
-
-  walk_few : small (walk_cells k.walk) ≡ true
-  unfolding Few control_saves
-  walk_few = small_take 9 (drop 28 (control_saves k)) (small_drop 28 (control_saves k) h)
-
--- PARTS
-part_long : (g k : ℕ) (m : List ℕ) → g + k ≤ length m → length (take k (drop g m)) ≡ k
-part_long g k m fits = length-take-le k (drop g m) (omega (arith, length-drop g m))
-
-part_short : (g k : ℕ) (m : List ℕ) → length (take k (drop g m)) ≤ k
-part_short g k m = omega (arith, length-take k (drop g m))
-
-part_few : (g k : ℕ) (m : List ℕ) → small m ≡ true → small (take k (drop g m)) ≡ true
-part_few g k m h = small_take k (drop g m) (small_drop g m h)
-
--- bytes with zeros behind them
-zeros_bytes : (n : ℕ) → all_bytes (zeros n) ≡ true
-unfolding all_bytes zeros
-zeros_bytes zero = refl
-zeros_bytes (suc n) = zeros_bytes n
-
-padded_few : (n i : ℕ) (bs : List ℕ) → all_bytes bs ≡ true → small (words n (bs ++ zeros i)) ≡ true
-padded_few n i bs h = words_small n (bs ++ zeros i) (all_bytes_append bs (zeros i) ∙ ap₂ ◌&&◌ h (zeros_bytes i))
-
-key_few : (q : List ℕ) → a_name q ≡ true → small (key_of q) ≡ true
-unfolding key_of small
-key_few q h =
-    small_append (words 8 (q ++ zeros (64 - length q))) (length q ∷ []) (padded_few 8 (64 - length q) q (proper_parts q h).1)
-    (small_from (length q) [] (omega (arith, (proper_parts q h).0)) refl)
-
--- a difference is within the rows, or where it was looked for from on
-abbrev Within : ℕ → ℕ → Option Difference → Type 0
-Within a b None = Unit {0}
-Within a b (Some d) = (d.next.old ≤ a) × (d.next.new ≤ b)
-
-difference_within : (fs gs : Tree) (i j : ℕ) → Within (i + length fs) (j + length gs) (first_difference fs gs i j)
-unfolding first_difference
-difference_within [] [] i j = tt
-difference_within [] (g ∷ gs) i j = (omega arith, omega arith)
-difference_within (f ∷ fs) [] i j = (omega arith, omega arith)
-difference_within (f ∷ fs) (g ∷ gs) i j =
-    pick_both (Within (i + suc (length fs)) (j + suc (length gs))) (meets (f ∷ fs) (g ∷ gs)) (first_difference fs gs (i + 1) (j + 1)) (difference_here (f ∷ fs) (g ∷ gs) i j)
-    (λ _. subst₂ (λ a b. Within a b (first_difference fs gs (i + 1) (j + 1))) (omega arith) (omega arith) (difference_within fs gs (i + 1) (j + 1)))
-    (λ _. pick_both (Within (i + suc (length fs)) (j + suc (length gs))) (same f.path g.path) (differs (Changed j) (i + 1) (j + 1))
-    (pick (earlier f.path g.path) (differs (Gone i) (i + 1) j) (differs (New j) i (j + 1))) (λ _. (omega arith, omega arith))
-    (λ _. pick_both (Within (i + suc (length fs)) (j + suc (length gs))) (earlier f.path g.path) (differs (Gone i) (i + 1) j) (differs (New j) i (j + 1))
-    (λ _. (omega arith, omega arith)) (λ _. (omega arith, omega arith))))
-
-left_short : (i : ℕ) (ws : List ℕ) → i < 2 ^ 64 → i + length (drop i (entries_of ws)) < 2 ^ 64
-left_short i ws l = omega (arith, length-drop i (entries_of ws), length_cut (min (get_or ws 0 0) (room ws)) (drop 2 ws))
-
--- an answer of a row that is squeezed is no more than there is room for
-Answered : ℕ → Option ℕ → Type 0
-Answered n None = Unit {0}
-Answered n (Some words) = words ≤ n
-
-answer_fits : (ws out : List ℕ) → Answered (length out) (squeeze_answer ws out)
-unfolding squeeze_answer Answered
-answer_fits ws out =
-    pick_both (Answered (length out)) (leb (length (squeezed ws)) (length out)) (Some (length (squeezed ws))) None (λ f. leb-true (length (squeezed ws)) (length out) f) (λ _. tt)
-
--- the file that is laid
-module _ (k : Control) (m : List ℕ) (stand : bytes_stand 65535 k.bytes bytes_at m ≡ true) where
-  file_short : length (file_in k m) ≤ 8198
-  file_short = omega (arith, as_many 65535 k.bytes bytes_at m stand, at_most 65535 k.bytes bytes_at m stand)
-
-  file_few : Few k → small m ≡ true → small (file_in k m) ≡ true
-  file_few h hm =
-      small_from (heading 1 0 (6 + length (words_at k.bytes bytes_at m))) ((64 + k.bytes) ∷ (key_words k.sum ++ words_at k.bytes bytes_at m)) (omega (arith, file_short))
-      (small_from (64 + k.bytes) (key_words k.sum ++ words_at k.bytes bytes_at m) (omega (arith, at_most 65535 k.bytes bytes_at m stand))
-      (small_append (key_words k.sum) (words_at k.bytes bytes_at m) (sum_few k h) (part_few bytes_at (words_for k.bytes) m hm)))
-
-window_few : (k : Control) (m : List ℕ) → Few k → small (walk_cells (window_of k m)) ≡ true
-unfolding small
-window_few k m h =
-    small_from (capped (8 * head_word m 0)) (capped (8 * (head_word m 1 - head_word m 0)) ∷ 0 ∷ 1 ∷ (key_words k.sum ++ 0 ∷ [])) (omega arith)
-    (small_from (capped (8 * (head_word m 1 - head_word m 0))) (0 ∷ 1 ∷ (key_words k.sum ++ 0 ∷ [])) (omega arith) (small_append (key_words k.sum) (0 ∷ []) (sum_few k h) refl))
-
-module _ (sum : Sum) (P : Type 0) (n : ℕ) where
-  -- so many words of memory, and numbers below 2^64 if something holds
-  record Fits (a : Asked Control) : Type 0 where
-    long : length a.memory ≡ n
-    few : P → Small (control_client sum) a
-
-  asks : (k : Control) (m : List ℕ) (q : Request) → (P → Few k) → Bounded P n m → (P → small (request_cells q) ≡ true) → Fits (asked k m q)
-  unfolding Few
-  asks k m q c b r = record { long = b.long; few = λ p. record { state = c p; memory = b.few p; request = r p } }
-
-  refuses : (k : Control) (m : List ℕ) (i : ℕ) → i < 2 ^ 64 → (P → Few k) → Bounded P n m → Fits (asked k m (Refuse i))
-  unfolding small
-  refuses k m i l c b = asks k m (Refuse i) c b (λ _. small_from i [] l refl)
-
-  -- marking and sweeping, in this client
-  fits_on : {S : Type 0} (cells : S → List ℕ) (put : S → Control) (back : S → List ℕ → Asked Control) (v : Turn S) → length v.memory ≡ n → (P → SmallTurn cells v) →
-      ((s : S) → P → small (cells s) ≡ true → Few (put s)) →
-      ((s : S) (m : List ℕ) → (P → small (cells s) ≡ true) → Bounded P n m → Fits (back s m)) →
-      Fits (asked_on put back v.state v.memory v.request)
-  fits_on cells put back v l t saves goes = go v.request (λ p. (t p).request)
-    where
-      here : Bounded P n v.memory
-      here = record { long = l; few = λ p. (t p).memory }
-
-      go : (q : Option Request) → (P → small (asked_cells q) ≡ true) → Fits (asked_on put back v.state v.memory q)
-      go None h = goes v.state v.memory (λ p. (t p).state) here
-      go (Some q) h = asks (put v.state) v.memory q (λ p. saves v.state p (t p).state) here h
-
-  -- MEMORY is long enough
-  module _ (room : desk_end ≤ n) where
-    bounded_row : (ws m : List ℕ) → length ws ≡ length (row_of m) → (P → small ws ≡ true) → Bounded P n m → Bounded P n (with_row ws m)
-    bounded_row ws m e few b = bounded_over P n row_at ws m (omega (arith, e, part_short row_at row_words m)) few b
-
-    key_is_long : (m : List ℕ) → Bounded P n m → length (path_key m) ≡ 9
-    key_is_long m b = part_long path_at 9 m (omega (arith, b.long))
-
-    bounded_named : (r : ℕ) (m : List ℕ) → (P → r < 2 ^ 64) → Bounded P n m → Bounded P n (named r m)
-    bounded_named r m l b =
-        bounded_row (put_key (path_key m) (entry_weight m) r (row_of m)) m (length_put_key (path_key m) (row_of m) (entry_weight m) r (key_is_long m b))
-        (λ p. small_put_key (path_key m) (row_of m) (entry_weight m) r (key_is_long m b) (part_few path_at 9 m (b.few p)) (part_few row_at row_words m (b.few p)) (l p)) b
-
-    bounded_bytes : (at : ℕ) (bs m : List ℕ) → (P → all_bytes bs ≡ true) → Bounded P n m → Bounded P n (bytes_put at bs m)
-    bounded_bytes at bs m h b =
-        pick_both (Bounded P n) (leb (at + words_for (length bs)) (length m)) (over at (packed_bytes bs) m) m
-        (λ f. bounded_over P n at (packed_bytes bs) m
-        (omega (arith, leb-true (at + words_for (length bs)) (length m) f, b.long, length_words (words_for (length bs)) (bs ++ zeros 7)))
-        (λ p. padded_few (words_for (length bs)) 7 bs (h p)) b)
-        (λ _. b)
-
-    bounded_emptied : (m : List ℕ) (at : ℕ) → at ≤ row_at → Bounded P n m → Bounded P n (emptied at m)
-    unfolding small
-    bounded_emptied m at le b = bounded_over P n at (0 ∷ 0 ∷ []) m (omega arith) (λ _. refl) b
-
-    bounded_squeezed : (m : List ℕ) → Bounded P n m → Bounded P n (squeezed_in m)
-    bounded_squeezed m b =
-        record {
-          long =
-              length-append (squeeze_into (row_of m) (take buffer_words m)) (drop buffer_words m) ∙ ap (λ i. i + length (drop buffer_words m)) (length_squeeze_into (row_of m) (take buffer_words m))
-              ∙ sym (length-append (take buffer_words m) (drop buffer_words m)) ∙ ap length (take-append-drop buffer_words m) ∙ b.long;
-          few =
-              λ p. small_append (squeeze_into (row_of m) (take buffer_words m)) (drop buffer_words m)
-              (small_squeeze_into (row_of m) (take buffer_words m) (part_few row_at row_words m (b.few p)) (small_take buffer_words m (b.few p))) (small_drop buffer_words m (b.few p));
-        }
-
-    -- LAYING AND PUBLISHING
-    module _ (k : Control) (c : P → Few k) where
-      publishes : (m : List ℕ) (page root : ℕ) → (P → page < 2 ^ 64) → (P → root < 2 ^ 64) → Bounded P n m → Fits (publish k m page root)
-      unfolding small
-      publishes m page root pc rc b =
-          asks (at_phase Publishing k) (over 0 (new_head page root m) m) Publish (λ p. phase_few k (c p) Publishing)
-          (bounded_over P n 0 (new_head page root m) m (omega (arith, length-drop 3 (take 32 (drop head_at m)), part_short head_at 32 m))
-          (λ p. small_from (head_word m 0) (page ∷ root ∷ others) (small_get_or m head_at (b.few p))
-          (small_from page (root ∷ others) (pc p) (small_from root others (rc p) (small_drop 3 (take 32 (drop head_at m)) (part_few head_at 32 m (b.few p)))))) b)
-          (λ _. refl)
-        where
-          others : List ℕ
-          others = drop 3 (take 32 (drop head_at m))
-
-      lays_from : (f : Phase) (m : List ℕ) (page words root : ℕ) → (P → page < 2 ^ 64) → words ≤ buffer_words → (P → root < 2 ^ 64) → Bounded P n m →
-          Fits (laid_from f k m page words root)
-      unfolding small
-      lays_from f m page words root pc few rc b =
-          asks (laying f (capped (page + pages_of words)) root k) m (Lay page (pages_of words)) (λ p. laying_few k (c p) f (capped (page + pages_of words)) root (omega arith) (rc p)) b
-          (λ p. small_from page (pages_of words ∷ []) (pc p) (small_from (pages_of words) [] (omega arith) refl))
-
-      puts_tree : (m : List ℕ) (page : ℕ) (o : Option ℕ) → (P → page < 2 ^ 64) → Answered (length (take buffer_words m)) o → Bounded P n m →
-          Fits (tree_put k m page o)
-      unfolding Answered
-      puts_tree m page None pc few b = refuses k (squeezed_in m) 2 (omega arith) c (bounded_squeezed m b)
-      puts_tree m page (Some words) pc few b =
-          lays_from LayingTree (squeezed_in m) page words (reference_at page) pc (omega (arith, few, part_short 0 buffer_words m)) (λ _. omega arith) (bounded_squeezed m b)
-
-      lays_tree : (m : List ℕ) (page : ℕ) → (P → page < 2 ^ 64) → Bounded P n m → Fits (lay_tree k m page)
-      lays_tree m page pc b = puts_tree m page (squeeze_answer (row_of m) (take buffer_words m)) pc (answer_fits (row_of m) (take buffer_words m)) b
-
-      lays_file : (m : List ℕ) (page : ℕ) → (P → page < 2 ^ 64) → Bounded P n m → Fits (lay_file k m page)
-      lays_file m page pc b =
-          pick_both Fits (bytes_stand 65535 k.bytes bytes_at m)
-          (laid_from LayingFile k (named (reference_at page) (over 0 (file_in k m) m)) page (length (file_in k m)) k.root) (asked k m (Refuse 2))
-          (λ f. lays_from LayingFile (named (reference_at page) (over 0 (file_in k m) m)) page (length (file_in k m)) k.root pc (omega (arith, file_short k m f)) (λ p. root_few k (c p))
-          (bounded_named (reference_at page) (over 0 (file_in k m) m) (λ _. omega arith)
-          (bounded_over P n 0 (file_in k m) m (omega (arith, file_short k m f)) (λ p. file_few k m f (c p) (b.few p)) b)))
-          (λ _. refuses k m 2 (omega arith) c b)
-
-    -- WHAT COMES BEFORE
-    module _ (k : Control) (c : P → Few k) where
-      survey_done : (w : Walk) (m : List ℕ) → (P → small (walk_cells w) ≡ true) → Bounded P n m → Fits (surveyed k w m)
-      survey_done w m wc b =
-          pick_both Fits (ltb (quarter (min k.pages 4294967296)) (kept k w m)) (asked (surveying k w) m (Refuse 8))
-          (pick (eqb w.found 0) (lay_file (surveying k w) m (head_word m 1)) (lay_tree (surveying k w) (named w.found m) (head_word m 1)))
-          (λ _. refuses (surveying k w) m 8 (omega arith) on b)
-          (λ _. pick_both Fits (eqb w.found 0) (lay_file (surveying k w) m (head_word m 1)) (lay_tree (surveying k w) (named w.found m) (head_word m 1))
-          (λ _. lays_file (surveying k w) on m (head_word m 1) page b)
-          (λ _. lays_tree (surveying k w) on (named w.found m) (head_word m 1) page (bounded_named w.found m (λ p. small_get_or (walk_cells w) 8 (wc p)) b)))
-        where
-          on : P → Few (surveying k w)
-          on p = surveying_few k (c p) w (wc p)
-
-          page : P → head_word m 1 < 2 ^ 64
-          page p = small_get_or m (head_at + 1) (b.few p)
-
-      objects : (f : Phase) (m : List ℕ) (r : ℕ) → Bounded P n m → Fits (asked (at_phase f k) m (Object (capped (8 * (r - 1))) buffer_words))
-      unfolding small
-      objects f m r b =
-          asks (at_phase f k) m (Object (capped (8 * (r - 1))) buffer_words) (λ p. phase_few k (c p) f) b
-          (λ _. small_from (capped (8 * (r - 1))) (buffer_words ∷ []) (omega arith) refl)
-
-      walks : (v : Turn Walk) → length v.memory ≡ n → (P → SmallTurn walk_cells v) → Fits (asked_on (surveying k) (surveyed k) v.state v.memory v.request)
-      walks v l t = fits_on walk_cells (surveying k) (surveyed k) v l t (λ w p h. surveying_few k (c p) w h) survey_done
-
-      surveys : (m : List ℕ) → Bounded P n m → Fits (survey k m)
-      surveys m b =
-          walks (sought (window_of k m) m₁) (sought_length (window_of k m) m₁ ∙ b₁.long) (λ p. sought_small (window_of k m) m₁ (window_few k m (c p)) (b₁.few p))
-        where
-          m₁ : List ℕ
-          m₁ = begun (capped (8 * head_word m 0)) (survey_roots m) m
-
-          b₁ : Bounded P n (begun (capped (8 * head_word m 0)) (survey_roots m) m)
-          b₁ = bounded_begun P n (capped (8 * head_word m 0)) (survey_roots m) m (omega arith) b
-
-      compares_by : (m : List ℕ) (x y : ℕ) (o : Option Difference) → (P → x < 2 ^ 64) → (P → y < 2 ^ 64) → Within x y o → Bounded P n m → Fits (compared k m o)
-      unfolding small
-      compares_by m x y None xc yc w b = asks k m Done c b (λ _. refl)
-      compares_by m x y (Some d) xc yc w b =
-          asks (comparing d.next k) (bytes_put 0 text m) (Show (length text)) (λ p. comparing_few k (c p) d.next (omega (arith, xc p, w.0)) (omega (arith, yc p, w.1)))
-          (bounded_bytes 0 text m (λ _. (shown_fits (old_row_of m) (row_of m) d.place).1) b)
-          (λ _. small_from (length text) [] (omega (arith, (shown_fits (old_row_of m) (row_of m) d.place).0)) refl)
-        where
-          text : List ℕ
-          text = shown (old_row_of m) (row_of m) d.place
-
-      compares : (m : List ℕ) → Bounded P n m → Fits (compare k m)
-      unfolding difference_from
-      compares m b =
-          compares_by m (k.cursor.old + length (drop k.cursor.old (entries_of (old_row_of m)))) (k.cursor.new + length (drop k.cursor.new (entries_of (row_of m))))
-          (difference_from (old_row_of m) (row_of m) k.cursor)
-          (λ p. left_short k.cursor.old (old_row_of m) (cursor_few k (c p)).0) (λ p. left_short k.cursor.new (row_of m) (cursor_few k (c p)).1)
-          (difference_within (drop k.cursor.old (entries_of (old_row_of m))) (drop k.cursor.new (entries_of (row_of m))) k.cursor.old k.cursor.new) b
-
-      opens : (m : List ℕ) (o : Option ℕ) → Bounded P n m → Fits (opened k m o)
-      opens m None b = refuses k m 3 (omega arith) c b
-      opens m (Some r) b = objects Opening m r b
-
-      loads_by : (m : List ℕ) (t : Task) → Bounded P n m → Fits (loaded k m t)
-      unfolding small
-      loads_by m Nothing b = asks k m Done c b (λ _. refl)
-      loads_by m Write b =
-          pick_both Fits (room_for (path_key m) 0 (row_of m)) (survey k (named 0 m)) (asked k m (Refuse 10))
-          (λ _. surveys (named 0 m) (bounded_named 0 m (λ _. omega arith) b)) (λ _. refuses k m 10 (omega arith) c b)
-      loads_by m Drop b =
-          pick_both Fits (has_key (path_key m) (row_of m))
-          (lay_tree k (with_row (take_key (path_key m) (entry_weight m) (row_of m)) m) (head_word m 1)) (asked k m (Refuse 3))
-          (λ _. lays_tree k c (with_row (take_key (path_key m) (entry_weight m) (row_of m)) m) (head_word m 1) (λ p. small_get_or m (head_at + 1) (b.few p))
-          (bounded_row (take_key (path_key m) (entry_weight m) (row_of m)) m (length_take_key (path_key m) (row_of m) (entry_weight m))
-          (λ p. small_take_key (path_key m) (row_of m) (entry_weight m) (part_few row_at row_words m (b.few p))) b))
-          (λ _. refuses k m 3 (omega arith) c b)
-      loads_by m Read b = opens m (reference_in (found (entries_of (row_of m)) (path_key m))) b
-      loads_by m Status b = compares (emptied old_row_at m) (bounded_emptied m old_row_at (omega arith) b)
-      loads_by m Leave b = asks k m Done c b (λ _. refl)
-
-      loads : (m : List ℕ) → Bounded P n m → Fits (load k m)
-      loads m b =
-          pick_both Fits (eqb (head_word m 2) 0) (loaded k (emptied row_at m) k.task)
-          (asked (at_phase Loading k) m (Object (capped (8 * (head_word m 2 - 1))) buffer_words))
-          (λ _. loads_by (emptied row_at m) k.task (bounded_emptied m row_at (omega arith) b)) (λ _. objects Loading m (head_word m 2) b)
-
-      starts : (m : List ℕ) (t : Task) → Bounded P n m → Fits (started k m t)
-      unfolding small
-      starts m Nothing b = asks k m Done c b (λ _. refl)
-      starts m Write b = loads m b
-      starts m Drop b = loads m b
-      starts m Read b = loads m b
-      starts m Status b = loads m b
-      starts m Leave b = publishes k c m (head_word m 1) 0 (λ p. small_get_or m (head_at + 1) (b.few p)) (λ _. omega arith) b
-
-      sweeps : (v : Turn Sweep) → length v.memory ≡ n → (P → SmallTurn sweep_cells v) → Fits (asked_on (sweeping k) (again k) v.state v.memory v.request)
-      unfolding small
-      sweeps v l t =
-          fits_on sweep_cells (sweeping k) (again k) v l t (λ s p h. sweeping_few k (c p) s h)
-          (λ s m h b. asks (at_phase Recalling (sweeping k s)) m Recall (λ p. phase_few (sweeping k s) (sweeping_few k (c p) s (h p)) Recalling) b (λ _. refl))
-
-      begins : (m : List ℕ) → Bounded P n m → Fits (recalled k m)
-      begins m b =
-          pick_both Fits (lays k.task && tight k.pages m) (asked_on (sweeping k) (again k) v.state v.memory v.request) (started k m k.task)
-          (λ _. sweeps v (sweep_begun_length k.sweep m ∙ b.long) (λ p. sweep_begun_small k.sweep m (sweep_few k (c p)) (b.few p))) (λ _. starts m k.task b)
-        where
-          v : Turn Sweep
-          v = sweep_begun k.sweep m
-
-      shows : (m : List ℕ) (o : Option ℕ) → Bounded P n m → Fits (file_came k m o)
-      unfolding small
-      shows m None b = refuses k m 2 (omega arith) c b
-      shows m (Some bytes) b =
-          asks (at_phase Showing k) (over 0 (take (words_for (min bytes 65535)) (drop 6 m)) m) (Show (min bytes 65535)) (λ p. phase_few k (c p) Showing)
-          (bounded_over P n 0 (take (words_for (min bytes 65535)) (drop 6 m)) m (omega (arith, part_short 6 (words_for (min bytes 65535)) m))
-          (λ p. part_few 6 (words_for (min bytes 65535)) m (b.few p)) b)
-          (λ _. small_from (min bytes 65535) [] (omega arith) refl)
-
-      resumes_by : (m : List ℕ) (f : Phase) → Bounded P n m → Fits (resumed k m f)
-      unfolding small
-      resumes_by m Resting b = asks k m Done c b (λ _. refl)
-      resumes_by m Recalling b =
-          begins (over head_at (take 32 m) m) (bounded_over P n head_at (take 32 m) m (omega (arith, part_short 0 32 m)) (λ p. small_take 32 m (b.few p)) b)
-      resumes_by m Sweeping b = sweeps (sweep_went_on k.sweep m) (sweep_went_on_length k.sweep m ∙ b.long) (λ p. sweep_went_on_small k.sweep m (sweep_few k (c p)) (b.few p))
-      resumes_by m Loading b =
-          loads_by (with_row (spread_into (take buffer_words m) (row_of m)) m) k.task
-          (bounded_row (spread_into (take buffer_words m) (row_of m)) m (length_spread_into (take buffer_words m) (row_of m))
-          (λ p. small_spread_into (take buffer_words m) (row_of m) (small_take buffer_words m (b.few p)) (part_few row_at row_words m (b.few p))) b)
-      resumes_by m Surveying b = walks (went_on k.walk m) (went_on_length k.walk m ∙ b.long) (λ p. went_on_small k.walk m (walk_few k (c p)) (b.few p))
-      resumes_by m LayingFile b = lays_tree k c m k.page (λ p. page_few k (c p)) b
-      resumes_by m LayingTree b = publishes k c m k.page k.root (λ p. page_few k (c p)) (λ p. root_few k (c p)) b
-      resumes_by m Publishing b = asks k m Done c b (λ _. refl)
-      resumes_by m Opening b = shows m (file_read m) b
-      resumes_by m Showing b = asks k m Done c b (λ _. refl)
-      resumes_by m Comparing b = compares m b
-
-      -- WHAT IS SAID
-      module _ (sums : (bs : List ℕ) → every (λ b. ltb b 256) (sum bs) ≡ true) where
-        bounded_path : (q m : List ℕ) → a_name q ≡ true → Bounded P n m → Bounded P n (path_put q m)
-        bounded_path q m h b =
-            pick_both (Bounded P n) (good_path q) (over path_at (key_of q) m) m
-            (λ _. bounded_over P n path_at (key_of q) m (omega (arith, length_key q)) (λ _. key_few q h) b) (λ _. b)
-
-        recalls : (t : Task) (bytes : ℕ) (s : Key) (m : List ℕ) → bytes < 2 ^ 64 → small (key_words s) ≡ true → Bounded P n m →
-            Fits (asked (hearing t bytes s k) m Recall)
-        unfolding small
-        recalls t bytes s m l h b = asks (hearing t bytes s k) m Recall (λ p. hearing_few k (c p) t bytes s l h) b (λ _. refl)
-
-        recalls_path : (t : Task) (q m : List ℕ) → a_name q ≡ true → Bounded P n m → Fits (asked (hearing t 0 no_sum k) (path_put q m) Recall)
-        unfolding small
-        recalls_path t q m h b = recalls t 0 no_sum (path_put q m) (omega arith) refl (bounded_path q m h b)
-
-        -- only what this house knows asks for the head
-        hears_said : (m : List ℕ) (a : Command) → fits a ≡ true → Bounded P n m → Fits (said_of sum k m a)
-        unfolding fits all_bytes small words
-        hears_said m (write_file q d) h b =
-            let e = and_parts (a_name q) (a_text d) h in
-            let text = text_parts d e.1 in
-            recalls Write (length d) (sum_key (sum d)) (bytes_put bytes_at d (path_put q m)) (omega (arith, text.0)) (words_small 4 (sum d) (sums d))
-            (bounded_bytes bytes_at d (path_put q m) (λ _. text.1) (bounded_path q m e.0 b))
-        hears_said m (drop_file q) h b = recalls_path Drop q m h b
-        hears_said m (commit s d) h b = refuses k m 2 (omega arith) c b
-        hears_said m (branch q) h b = refuses k m 2 (omega arith) c b
-        hears_said m (go_to q) h b = refuses k m 2 (omega arith) c b
-        hears_said m history h b = refuses k m 2 (omega arith) c b
-        hears_said m (show_file q d) h b = refuses k m 2 (omega arith) c b
-        hears_said m status h b = recalls Status 0 no_sum m (omega arith) refl b
-        hears_said m (read_file q) h b = recalls_path Read q m h b
-        hears_said m (join q) h b = refuses k m 2 (omega arith) c b
-        hears_said m (settle q) h b = refuses k m 2 (omega arith) c b
-        hears_said m leave h b = recalls Leave 0 no_sum m (omega arith) refl b
-        hears_said m (move_onto q) h b = refuses k m 2 (omega arith) c b
-        hears_said m (carry q) h b = refuses k m 2 (omega arith) c b
-        hears_said m (forget q) h b = refuses k m 2 (omega arith) c b
-        hears_said m (tag q) h b = refuses k m 2 (omega arith) c b
-        hears_said m (who q) h b = refuses k m 2 (omega arith) c b
-        hears_said m sweep_command h b = refuses k m 2 (omega arith) c b
-        hears_said m (fetch d) h b = refuses k m 2 (omega arith) c b
-
-        hears_by : (m text : List ℕ) (o : Option Command) → Answers text o → Bounded P n m → Fits (heard_of sum k m o)
-        hears_by m text None h b = refuses k m 1 (omega arith) c b
-        hears_by m text (Some a) h b = hears_said m a h.1 b
-
-  -- a memory that is too short is left alone
-  guarded : (k : Control) (m : List ℕ) (a : Asked Control) → (P → Few k) → Bounded P n m → (desk_end ≤ n → Fits a) →
-      Fits (pick (ltb (length m) desk_end) (asked k m (Refuse 2)) a)
-  guarded k m a c b on =
-      pick_both Fits (ltb (length m) desk_end) (asked k m (Refuse 2)) a (λ _. refuses k m 2 (omega arith) c b)
-      (λ e. let r : desk_end ≤ length m = ltb-false (length m) desk_end e in on (omega (arith, b.long)))
-
--- THE CLIENT
-module _ (sum : Sum) (sums : (bs : List ℕ) → (length (sum bs) ≡ 32) × (every (λ b. ltb b 256) (sum bs) ≡ true)) where
-  fits_hears : (P : Type 0) (n : ℕ) (k : Control) (m text : List ℕ) → (P → Few k) → Bounded P n m → Fits sum P n (control_hears sum k m text)
-  fits_hears P n k m text c b =
-      guarded sum P n k m (heard_of sum k m (parsed text)) c b (λ room. hears_by sum P n room k c (λ bs. (sums bs).1) m text (parsed text) (answered text) b)
-
-  fits_resumes : (P : Type 0) (n : ℕ) (k : Control) (m : List ℕ) → (P → Few k) → Bounded P n m → Fits sum P n (control_resumes k m)
-  fits_resumes P n k m c b = guarded sum P n k m (resumed k m k.phase) c b (λ room. resumes_by sum P n room k c m k.phase b)
-
-  nothing_known : (m : List ℕ) → Bounded ⊥ (length m) m
-  nothing_known m = record { long = refl; few = λ p. absurd p }
-
-  pub lawful : Lawful (control_client sum)
-  unfolding Few
-  lawful =
-      record {
-        load_save = control_kept;
-        save_length = control_long;
-        load_small = loads_few;
-        wakes_small = wakes_few;
-        hears_length = λ k m text. (fits_hears ⊥ (length m) k m text (λ p. absurd p) (nothing_known m)).long;
-        hears_small = λ k m text h hm. (fits_hears (small m ≡ true) (length m) k m text (λ _. h) (bounded m)).few hm;
-        resumes_length = λ k m. (fits_resumes ⊥ (length m) k m (λ p. absurd p) (nothing_known m)).long;
-        resumes_small = λ k m h hm. (fits_resumes (small m ≡ true) (length m) k m (λ _. h) (bounded m)).few hm;
-      }
+    go : (b : Bool) → Some k ≡ pick b (Some (key_of p)) None → put_mid path_at 9 m new ≡ pick b (over path_at (key_of p) m) m
+    go true q = let same : k ≡ key_of p = cc in put_over path_at 9 new m (l ∙ length-take-le 9 (drop path_at m) (omega (arith, length-drop path_at m))) ∙ ap (λ x. over path_at x m) (n ∙ same)
+    go false q = absurd (cc)
+
+-- MARKING
+
+-- references of two rows, one row after the other
+references_both : (first : ℕ) (rs ss ws : List ℕ) → with_references first (rs ++ ss) ws ≡ with_references first ss (with_references first rs ws)
+unfolding with_references
+references_both first [] ss ws = refl
+references_both first (r ∷ rs) ss ws = references_both first rs ss (with_reference first r ws)
+
+references_end : (first r : ℕ) (rs ws : List ℕ) → with_reference first r (with_references first rs ws) ≡ with_references first (rs ++ r ∷ []) ws
+unfolding with_references
+references_end first r rs ws = sym (references_both first rs (r ∷ []) ws)
+
+-- entries of ten words, whose references are marked one by one behind the front of memory
+abbrev pub named_by : List (List ℕ) → List ℕ
+named_by es = each (λ e. get_or e 9 0) es
+
+abbrev pub marked_by : ℕ → List (List ℕ) → List ℕ → List ℕ
+marked_by first es m = with_map (with_references first (named_by es) (map_of m)) m
+
+pub marked_none : (first : ℕ) (es : List (List ℕ)) (m : List ℕ) → plan_end ≤ length m → m ≡ marked_by first (take 0 es) m
+unfolding with_references
+marked_none first es m h = sym (with_map_same m h)
+
+named_more : (es : List (List ℕ)) (i : ℕ) → i < length es → named_by (take (i + 1) es) ≡ named_by (take i es) ++ get_or (get_or es i []) 9 0 ∷ []
+named_more es i h = ap named_by (take_more es i [] h) ∙ each_append (λ e. get_or e 9 0) (take i es) (get_or es i [] ∷ [])
+
+pub marked_more : (first i : ℕ) (es : List (List ℕ)) (m now : List ℕ) → plan_end ≤ length m → i < length es → now ≡ marked_by first (take i es) m →
+    rooted first (get_or (get_or es i []) 9 0) now ≡ marked_by first (take (i + 1) es) m
+marked_more first i es m now h lt e =
+    ap (rooted first r) e
+    ∙ pick_false (ltb (length (with_map ws m)) plan_end) (with_map ws m) (with_map (with_reference first r (map_of (with_map ws m))) (with_map ws m))
+    (le-ltb (length (with_map ws m)) plan_end (omega (arith, length_with_map ws m l h)))
+    ∙ ap (λ x. with_map (with_reference first r x) (with_map ws m)) (map_of_with_map ws m l h)
+    ∙ with_map_again ws (with_reference first r ws) m l (ap length next ∙ length_with_references first (named_by (take (i + 1) es)) (map_of m) ∙ length_map_of m h) h
+    ∙ ap (λ x. with_map x m) next
+  where
+    next : with_reference first (get_or (get_or es i []) 9 0) (with_references first (named_by (take i es)) (map_of m)) ≡ with_references first (named_by (take (i + 1) es)) (map_of m)
+    next = references_end first (get_or (get_or es i []) 9 0) (named_by (take i es)) (map_of m) ∙ ap (λ rs. with_references first rs (map_of m)) (sym (named_more es i lt))
+
+    r : ℕ
+    r = get_or (get_or es i []) 9 0
+
+    ws : List ℕ
+    ws = with_references first (named_by (take i es)) (map_of m)
+
+    l : length (with_references first (named_by (take i es)) (map_of m)) ≡ map_words
+    l = length_with_references first (named_by (take i es)) (map_of m) ∙ length_map_of m h
+
+-- all entries of a row are marked
+pub marked_all : (first i : ℕ) (es : List (List ℕ)) (row m now : List ℕ) → es ≡ tens (held row) (drop 2 row) → length es ≤ i → now ≡ marked_by first (take i es) m →
+    now ≡ with_map (with_references first (references row) (map_of m)) m
+marked_all first i es row m now e le is =
+    is ∙ ap (λ x. marked_by first x m) (take_all i es le)
+    ∙ ap (λ rs. with_map (with_references first rs (map_of m)) m) (sym (each_each reference_of as_entry es) ∙ ap (each reference_of) (entries_are row es e))
+
+-- what the head names, and then the files of the row
+pub kept_marked : (first : ℕ) (roots m front back now : List ℕ) → desk_end ≤ length m → back ≡ drop row_at m →
+    front ≡ begun first roots (take row_at m) → now ≡ with_map (with_references first (references (take row_words back)) (map_of front)) front →
+    now ++ back ≡ begun first (roots ++ references (row_of m)) m
+kept_marked first roots m front back now h b f n =
+    let long : plan_end ≤ length (take row_at m) = omega (arith, length-take row_at m) in
+    let l : length ws ≡ map_words = length_with_references first roots (zeros map_words) ∙ length_zeros map_words in
+    let refs : references (take row_words back) ≡ references (row_of m) = ap (λ x. references (take row_words x)) b in
+    let lw : length (with_references first (references (row_of m)) ws) ≡ map_words = length_with_references first (references (row_of m)) ws ∙ l in
+    ap₂ (λ x y. x ++ y)
+    (n ∙ ap₂ (λ rs x. with_map (with_references first rs (map_of x)) x) refs f
+    ∙ ap (λ x. with_map (with_references first (references (row_of m)) x) (with_map ws (take row_at m))) (map_of_with_map ws (take row_at m) l long)
+    ∙ with_map_again ws (with_references first (references (row_of m)) ws) (take row_at m) l lw long)
+    b
+    ∙ over_in_front map_at row_at (with_references first (references (row_of m)) ws) m (omega arith)
+    ∙ ap (λ x. with_map x m) (sym (references_both first roots (references (row_of m)) (zeros map_words)))
+  where
+    ws : List ℕ
+    ws = with_references first roots (zeros map_words)
+
+-- THE NEW HEAD
+two_set : (h rest : List ℕ) (a b : ℕ) → 3 ≤ length h → set (set (h ++ rest) 1 a) 2 b ≡ (get_or h 0 0 ∷ a ∷ b ∷ drop 3 h) ++ rest
+two_set [] rest a b h = absurd (omega arith)
+two_set (x ∷ []) rest a b h = absurd (omega arith)
+two_set (x ∷ y ∷ []) rest a b h = absurd (omega arith)
+two_set (x ∷ y ∷ z ∷ xs) rest a b h = refl
+
+pub head_made : (m copied : List ℕ) (page root : ℕ) → desk_end ≤ length m → copied ≡ over 0 (take 32 (drop head_at m)) m →
+    set (set copied 1 page) 2 root ≡ over 0 (new_head page root m) m
+head_made m copied page root h e =
+    ap (λ x. set (set x 1 page) 2 root) e ∙ two_set head rest page root (omega (arith, long))
+    ∙ ap₂ (λ x y. (x ∷ page ∷ root ∷ drop 3 head) ++ y) (get_or-take 32 (drop head_at m) 0 0 (omega arith) ∙ get_or-drop head_at m 0 0)
+    (ap (λ n. drop n m) (omega (arith, long, length-drop 3 head)))
+  where
+    head : List ℕ
+    head = take 32 (drop head_at m)
+
+    rest : List ℕ
+    rest = drop (0 + length (take 32 (drop head_at m))) m
+
+    long : length (take 32 (drop head_at m)) ≡ 32
+    long = length-take-le 32 (drop head_at m) (omega (arith, length-drop head_at m))

@@ -38,7 +38,7 @@ use Rattle.house.proofs.FineLaws.{stays_fine, all_empty}
 use Rattle.house.proofs.TurnLaws.{houses_apart, clone_at_same, clone_at_either}
 use Rattle.house.proofs.Simulation.{simulated, length_so_many}
 use Rattle.house.proofs.OnTape.{obligations}
-use Rattle.house.proofs.ControlLaws.{lawful}
+use Rattle.house.proofs.ControlBounds.{lawful}
 use Rattle.house.proofs.ShelfLaws.{shelf_new}
 use Rattle.house.proofs.Commands.{Spot, leaves, reads, tells, drops, writes_none, writes_full, writes_done}
 

@@ -9,6 +9,8 @@ pub mod OnTape
 pub mod Started
 pub mod DeskLaws
 pub mod Sheets
+pub mod ControlBounds
+pub mod ControlSteps
 pub mod ControlLaws
 pub mod ShelfLaws
 pub mod NewShelf

@@ -7,6 +7,7 @@ ghost use Rattle.pages.specs.Told.{event_meant};
 ghost use Rattle.std.specs.Prelude.{◌≡◌, ◌<◌, ◌≤◌, take, drop, MatchOption};
 
 pub mod control;
+mod desk;
 
 pub mod laws;
 pub mod promise;

@@ -6,7 +6,7 @@ ghost use Rattle.objects.specs.Packing.{filled, packed, pages_packed};
 use crate::plan;
 
 // Copies words to another place; the two may overlap.
-pub(crate) fn copy_words(memory: &mut [u64], from: usize, to: usize, many: usize)
+pub fn copy_words(memory: &mut [u64], from: usize, to: usize, many: usize)
     requires { (from + many ≤ length memory.old) × (to + many ≤ length memory.old) }
     ensures { memory.new ≡ over to (take many (drop from memory.old)) memory.old }
 {

@@ -6,6 +6,7 @@ pub mod EntryLaws
 pub mod MoveLaws
 pub mod PutLaws
 pub mod DifferLaws
+pub mod ShowLaws
 pub mod PackLaws
 pub mod RowOfLaws
 pub mod StoredLaws

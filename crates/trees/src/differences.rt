@@ -1,10 +1,12 @@
 // Where two tree rows differ.
-ghost use Rattle.std.specs.Prelude.{◌≡◌, drop};
+ghost use Rattle.std.specs.Prelude.{◌≡◌, ◌+◌, ◌*◌, ◌≤◌, ◌∷◌, ◌++◌, length, take, drop};
 ghost use Rattle.pages.specs.Lists.{each};
-ghost use Rattle.trees.specs.Differ.{difference_from, difference_here, differs as told, meets};
-ghost use Rattle.trees.specs.Row.{as_entry};
+ghost use Rattle.trees.specs.Differ.{difference_from, difference_here, differs as told, meets, path_in, shown};
+ghost use Rattle.trees.specs.Row.{as_entry, path_of};
 
 use crate::entries::{Entry, entries, order};
+use crate::keys::Key;
+use pages::words::put_bytes;
 use std::cmp::Ordering;
 
 // A place in each of two rows, in files.
@@ -76,4 +78,50 @@ pub fn differ(old: &[u64], new: &[u64], from: Cursor) -> Option<Difference>
         j += 1;
     }
     here(old, new, i, j)
+}
+
+// The bytes of a key's path, behind the first byte of a row; says how many there are.
+fn put_path(key: &Key, out: &mut [u8; 65]) -> usize
+    ensures path { out.new ≡ take 1 out.old ++ (path_of key.now ++ drop (1 + length (path_of key.now)) out.old) }
+    ensures many { result ≡ length (path_of key.now) }
+    ensures bound { result ≤ 64 }
+{
+    let many = key[8].min(64) as usize;
+    put_bytes(&key[..8], many, &mut out[1..]);
+    many
+}
+
+// The key of the file at a place of a row; of no path where there is none.
+fn key_at(row: &[u64], i: usize) -> Key
+    ensures { path_of result ≡ path_in row.now i }
+{
+    let from = i.saturating_mul(10).saturating_add(2);
+    let mut key = [0; 9];
+    if let Some(words) = row.get(from..from.saturating_add(9)) {
+        key.copy_from_slice(words);
+    }
+    key
+}
+
+// A mark and the path of a key, in front of a row of bytes; says how many bytes that takes.
+fn show_file(mark: u8, key: &Key, out: &mut [u8; 65]) -> usize
+    ensures shown { take result out.new ≡ mark ∷ path_of key.now }
+    ensures many { result ≡ 1 + length (path_of key.now) }
+    ensures bound { result ≤ 65 }
+{
+    out[0] = mark;
+    1 + put_path(key, out)
+}
+
+// What is shown of a difference, in front of a row of bytes: 1 new, 2 changed, 3 gone, and then the path; says how many bytes that takes.
+pub fn show(old: &[u64], new: &[u64], place: Place, out: &mut [u8; 65]) -> usize
+    ensures shown { take result out.new ≡ shown old.now new.now place }
+    ensures many { result ≡ length (shown old.now new.now place) }
+    ensures bound { result ≤ 65 }
+{
+    match place {
+        Place::New(at) => show_file(1, &key_at(new, at), out),
+        Place::Changed(at) => show_file(2, &key_at(new, at), out),
+        Place::Gone(at) => show_file(3, &key_at(old, at), out),
+    }
 }

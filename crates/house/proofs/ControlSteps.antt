@@ -1,0 +1,216 @@
+-- The control's branches: what each test decides. Assumes nothing.
+use Rattle.std.proofs.Common.{◌≡◌, ℕ, ◌+◌, ◌-◌, ◌*◌, ◌/◌, ◌<◌, ◌≤◌, min, Bool, true, false, not, ◌&&◌, eqb, leb, ltb, List, [], ◌∷◌, ◌++◌, length, get_or, take, drop, Some, None, Option, Ok, Err, Result, sym, refl, ap, ◌∙◌, ap₂, arith, length-drop, length-append}
+use Rattle.std.proofs.lemmas.Bool.{true≢false, false≢true, and_from, and_parts, eq-eqb, eqb-true, leb-true, le-ltb, lt-ltb}
+use Rattle.std.proofs.lemmas.List.{length-take}
+use borrow.Rule.Slice.PartMut.{put_mid}
+use Rattle.std.specs.Result.{is_err}
+use Rattle.pages.specs.Lists.{pick}
+use Rattle.pages.specs.Machine.{Asked, asked, buffer_words, capped}
+use Rattle.pages.specs.Words.{over}
+use Rattle.pages.specs.declared.machine.Request.{Request}
+use Rattle.pages.specs.declared.machine.Request.TheVariants.{Object, Refuse}
+use Rattle.pages.proofs.ListLaws.{false_unless, pick_true, pick_false}
+use Rattle.objects.specs.Layouts.{answered, bytes_stand, in_front, words_at, words_for}
+use Rattle.objects.specs.Plan.{plan_end}
+use Rattle.objects.specs.Marking.{begun, walk}
+use Rattle.objects.specs.Sweeping.{sweep_begun, swung}
+use Rattle.objects.specs.Room.{quarter}
+use Rattle.objects.proofs.PlanLaws.{over_before, over_same}
+use Rattle.trees.specs.Row.{has_key, put_key, room_for, take_key}
+use Rattle.trees.specs.Packed.{squeezed, squeeze_answer}
+use Rattle.trees.specs.declared.rows.Refused.{Refused}
+use Rattle.trees.specs.declared.rows.Refused.TheVariants.{Full}
+use Rattle.commands.specs.Meaning.{meant}
+use Rattle.commands.specs.declared.command.Command.{Command}
+use Rattle.commands.specs.declared.command.Command.TheVariants.{WriteFile, DropFile, Commit, Branch, GoTo, History, ShowFile, Status as StatusSaid, ReadFile, Join, Settle, Leave as LeaveSaid, MoveOnto, Carry, Forget, Tag, Who, Sweep, Fetch}
+use Rattle.history.specs.Book.{Sum}
+use Rattle.house.specs.declared.control.Control.{Control}
+use Rattle.house.specs.declared.control.Phase.{Phase}
+use Rattle.house.specs.declared.control.Phase.TheVariants.{LayingFile, LayingTree, Loading}
+use Rattle.house.specs.declared.control.Task.{Task}
+use Rattle.house.specs.declared.control.Task.TheVariants.{Nothing, Write, Drop, Read, Status, Leave}
+use Rattle.house.specs.Control.{again, at_phase, bytes_at, control_resumes, desk_end, emptied, entry_weight, file_in, head_word, kept, laid_from, lay_file, lay_tree, lays, load, loaded, named, path_key, recalled, reference_at, resumed, row_at, row_of, row_words, said_of, squeezed_in, started, survey, surveyed, surveying, survey_roots, sweeping, tight, tree_put, window_of, with_row}
+use Rattle.house.proofs.ControlLaws.{row_written}
+
+-- THE TREE IS LAID, where its row could be stored
+squeezed_fits : (ws out : List ℕ) (words : ℕ) → Some words ≡ squeeze_answer ws out → words ≤ length out
+unfolding squeeze_answer
+squeezed_fits ws out words e = go (leb (length (squeezed ws)) (length out)) refl e
+  where
+    go : (b : Bool) → leb (length (squeezed ws)) (length out) ≡ b → Some words ≡ pick b (Some (length (squeezed ws))) None → words ≤ length out
+    go true t q = let l : length (squeezed ws) ≤ length out = leb-true (length (squeezed ws)) (length out) t in let s : words ≡ length (squeezed ws) = cc in omega arith
+    go false t q = absurd (cc)
+
+pub tree_words : (m ws : List ℕ) (words : ℕ) (r : Option ℕ) → r ≡ Some words → r ≡ squeeze_answer ws (take buffer_words m) → words < 4294967296
+tree_words m ws words r e a = omega (arith, squeezed_fits ws (take buffer_words m) words (sym e ∙ a), length-take buffer_words m)
+
+pub tree_none : (k : Control) (m m₁ : List ℕ) (page : ℕ) (r : Option ℕ) (q : Request) → r ≡ None → r ≡ squeeze_answer (row_of m) (take buffer_words m) →
+    m₁ ≡ squeezed_in m → q ≡ Refuse 2 → asked k m₁ q ≡ lay_tree k m page
+tree_none k m m₁ page r q n a e f = ap₂ (asked k) e f ∙ ap (tree_put k m page) (sym n ∙ a)
+
+pub tree_some : (k k₁ : Control) (m m₁ : List ℕ) (page words root : ℕ) (r : Option ℕ) (q : Request) → r ≡ Some words →
+    r ≡ squeeze_answer (row_of m) (take buffer_words m) → m₁ ≡ squeezed_in m → root ≡ reference_at page →
+    asked k₁ m₁ q ≡ laid_from LayingTree k m₁ page words root → asked k₁ m₁ q ≡ lay_tree k m page
+tree_some k k₁ m m₁ page words root r q s a e f is =
+    is ∙ ap₂ (λ x y. laid_from LayingTree k x page words y) e f ∙ ap (tree_put k m page) (sym s ∙ a)
+
+-- THE FILE IS LAID, where its bytes stand
+file_fits : (k : Control) (m : List ℕ) (words : ℕ) (r : Option ℕ) → r ≡ answered (bytes_stand 65535 k.bytes bytes_at m) (file_in k m) → r ≡ Some words →
+    (bytes_stand 65535 k.bytes bytes_at m ≡ true) × (words ≡ length (file_in k m))
+file_fits k m words r a s = go (bytes_stand 65535 k.bytes bytes_at m) (sym s ∙ a)
+  where
+    go : (b : Bool) → Some words ≡ pick b (Some (length (file_in k m))) None → (b ≡ true) × (words ≡ length (file_in k m))
+    go true e = (refl, cc)
+    go false e = absurd (cc)
+
+pub file_words : (k : Control) (m : List ℕ) (words : ℕ) (r : Option ℕ) → r ≡ answered (bytes_stand 65535 k.bytes bytes_at m) (file_in k m) → r ≡ Some words → words < 4294967296
+file_words k m words r a s =
+    let f = file_fits k m words r a s in
+    let p = and_parts (leb plan_end (length m)) _ f.0 in
+    let q = and_parts (leb k.bytes 65535) _ p.1 in
+    let few : k.bytes ≤ 65535 = leb-true k.bytes 65535 q.0 in
+    let long : length (file_in k m) ≡ 6 + length (words_at k.bytes bytes_at m) = omega arith in
+    omega (arith, f.1, length-take (words_for k.bytes) (drop bytes_at m))
+
+pub file_none : (k : Control) (m m₁ : List ℕ) (page : ℕ) (r : Option ℕ) (q : Request) → r ≡ answered (bytes_stand 65535 k.bytes bytes_at m) (file_in k m) → r ≡ None →
+    m₁ ≡ in_front (bytes_stand 65535 k.bytes bytes_at m) (file_in k m) m → q ≡ Refuse 2 → asked k m₁ q ≡ lay_file k m page
+file_none k m m₁ page r q a n e f = go (bytes_stand 65535 k.bytes bytes_at m) (sym n ∙ a) e
+  where
+    go : (b : Bool) → None ≡ answered b (file_in k m) → m₁ ≡ in_front b (file_in k m) m →
+        asked k m₁ q
+        ≡ pick b (laid_from LayingFile k (named (reference_at page) (over 0 (file_in k m) m)) page (length (file_in k m)) k.root) (asked k m (Refuse 2))
+    go true g h = absurd (cc)
+    go false g h = ap₂ (asked k) h f
+
+pub file_some : (k k₁ : Control) (m m₁ m₂ : List ℕ) (page words at : ℕ) (r : Option ℕ) (q : Request) →
+    r ≡ answered (bytes_stand 65535 k.bytes bytes_at m) (file_in k m) → r ≡ Some words → m₁ ≡ in_front (bytes_stand 65535 k.bytes bytes_at m) (file_in k m) m →
+    at ≡ reference_at page → m₂ ≡ named at m₁ → asked k₁ m₂ q ≡ laid_from LayingFile k m₂ page words k.root → asked k₁ m₂ q ≡ lay_file k m page
+file_some k k₁ m m₁ m₂ page words at r q a s e g n is =
+    let f = file_fits k m words r a s in
+    let front : m₁ ≡ over 0 (file_in k m) m = e ∙ ap (λ b. in_front b (file_in k m) m) f.0 in
+    is ∙ ap₂ (λ x y. laid_from LayingFile k x page y k.root) (n ∙ ap₂ named g front) f.1
+    ∙ sym (pick_true (bytes_stand 65535 k.bytes bytes_at m) _ (asked k m (Refuse 2)) f.0)
+
+-- THE SURVEY BEGINS
+eightfold : (x y r : ℕ) → y ≡ x → r ≡ min (y * 8) 18446744073709551615 → r ≡ capped (8 * x)
+eightfold x y r e f = omega arith
+
+pub window_is : (k : Control) (m : List ℕ) (a b d f g : ℕ) → a ≡ head_word m 0 → b ≡ head_word m 1 → d ≡ b - a → f ≡ min (a * 8) 18446744073709551615 →
+    g ≡ min (d * 8) 18446744073709551615 → walk f g 0 1 k.sum 0 ≡ window_of k m
+window_is k m a b d f g ea eb ed ef eg =
+    ap₂ (λ x y. walk x y 0 1 k.sum 0) (eightfold (head_word m 0) a f ea ef)
+    (eightfold (head_word m 1 - head_word m 0) d g (ed ∙ ap₂ (λ x y. x - y) eb ea) eg)
+
+pub kept_begun : (m m₁ : List ℕ) (a f : ℕ) → a ≡ head_word m 0 → f ≡ min (a * 8) 18446744073709551615 → m₁ ≡ begun f (survey_roots m) m →
+    m₁ ≡ begun (capped (8 * head_word m 0)) (survey_roots m) m
+kept_begun m m₁ a f ea ef e = e ∙ ap (λ x. begun x (survey_roots m) m) (eightfold (head_word m 0) a f ea ef)
+
+-- ALL IS MET
+pub no_room : (k : Control) (m : List ℕ) (much most : ℕ) (q : Request) → much ≡ kept k k.walk m → most ≡ quarter (min k.pages 4294967296) → most < much → q ≡ Refuse 8 →
+    asked (surveying k k.walk) m q ≡ surveyed k k.walk m
+no_room k m much most q a b h e =
+    ap (asked (surveying k k.walk) m) e
+    ∙ sym (pick_true (ltb (quarter (min k.pages 4294967296)) (kept k k.walk m)) (asked (surveying k k.walk) m (Refuse 8)) _ (lt-ltb (quarter (min k.pages 4294967296)) (kept k k.walk m) (omega arith)))
+
+room_left : (k : Control) (m : List ℕ) (much most : ℕ) → much ≡ kept k k.walk m → most ≡ quarter (min k.pages 4294967296) → much ≤ most →
+    pick (eqb k.walk.found 0) (lay_file (surveying k k.walk) m (head_word m 1)) (lay_tree (surveying k k.walk) (named k.walk.found m) (head_word m 1)) ≡ surveyed k k.walk m
+room_left k m much most a b h =
+    sym (pick_false (ltb (quarter (min k.pages 4294967296)) (kept k k.walk m)) (asked (surveying k k.walk) m (Refuse 8)) _ (le-ltb (quarter (min k.pages 4294967296)) (kept k k.walk m) (omega arith)))
+
+pub file_is_new : (k : Control) (m : List ℕ) (much most page : ℕ) (a : Asked Control) → much ≡ kept k k.walk m → most ≡ quarter (min k.pages 4294967296) → much ≤ most →
+    k.walk.found ≡ 0 → page ≡ head_word m 1 → a ≡ lay_file (surveying k k.walk) m page → a ≡ surveyed k k.walk m
+file_is_new k m much most page a e f h z p is =
+    is ∙ ap (lay_file (surveying k k.walk) m) p ∙ sym (pick_true (eqb k.walk.found 0) _ _ (eq-eqb k.walk.found 0 z)) ∙ room_left k m much most e f h
+
+pub file_is_there : (k : Control) (m m₁ : List ℕ) (much most page : ℕ) (a : Asked Control) → much ≡ kept k k.walk m → most ≡ quarter (min k.pages 4294967296) → much ≤ most →
+    (k.walk.found ≡ 0 → ⊥) → page ≡ head_word m 1 → m₁ ≡ named k.walk.found m → a ≡ lay_tree (surveying k k.walk) m₁ page → a ≡ surveyed k k.walk m
+file_is_there k m m₁ much most page a e f h z p n is =
+    is ∙ ap₂ (lay_tree (surveying k k.walk)) n p
+    ∙ sym (pick_false (eqb k.walk.found 0) _ _ (false_unless (eqb k.walk.found 0) (λ t. z (eqb-true k.walk.found 0 t)))) ∙ room_left k m much most e f h
+
+-- THE ROW IS CHANGED, or stays
+same_row : (m new ws : List ℕ) → desk_end ≤ length m → length new ≡ length (row_of m) → new ≡ ws → ws ≡ row_of m → put_mid row_at row_words m new ≡ m
+same_row m new ws h l e s = row_written m new ws h l e ∙ ap (λ x. with_row x m) s ∙ over_same row_at row_words m (omega arith)
+
+put_fails : (m new key : List ℕ) (weight : ℕ) → desk_end ≤ length m → length new ≡ length (row_of m) → new ≡ put_key key weight 0 (row_of m) →
+    room_for key 0 (row_of m) ≡ false → put_mid row_at row_words m new ≡ m
+unfolding put_key
+put_fails m new key weight h l e f = same_row m new _ h l e (pick_false (room_for key 0 (row_of m)) _ (row_of m) f)
+
+take_fails : (m new key : List ℕ) (weight : ℕ) → desk_end ≤ length m → length new ≡ length (row_of m) → new ≡ take_key key weight (row_of m) →
+    has_key key (row_of m) ≡ false → put_mid row_at row_words m new ≡ m
+unfolding take_key
+take_fails m new key weight h l e f = same_row m new _ h l e (pick_false (has_key key (row_of m)) _ (row_of m) f)
+
+head_stays : (ws m : List ℕ) → desk_end ≤ length m → head_word (with_row ws m) 1 ≡ head_word m 1
+head_stays ws m h = over_before row_at 41153 ws m (omega arith) (omega arith)
+
+-- an error says that there was no room
+pub put_said : (room failed : Bool) (r : Result Unit Refused) → r ≡ pick room (Ok tt) (Err Full) → failed ≡ is_err r → room ≡ not failed
+put_said true failed r e f = sym (ap not (f ∙ ap is_err e))
+put_said false failed r e f = sym (ap not (f ∙ ap is_err e))
+
+-- a file is written into the row
+pub write_full : (k : Control) (m new key : List ℕ) (weight : ℕ) (q : Request) → desk_end ≤ length m → length new ≡ length (row_of m) →
+    new ≡ put_key key weight 0 (row_of m) → key ≡ path_key m → room_for key 0 (row_of m) ≡ false → q ≡ Refuse 10 →
+    asked k (put_mid row_at row_words m new) q ≡ loaded k m Write
+write_full k m new key weight q h l e p f r =
+    ap₂ (asked k) (put_fails m new key weight h l e f) r
+    ∙ sym (pick_false (room_for (path_key m) 0 (row_of m)) _ (asked k m (Refuse 10)) (ap (λ x. room_for x 0 (row_of m)) (sym p) ∙ f))
+
+pub write_fits : (k : Control) (m new key : List ℕ) (weight : ℕ) (a : Asked Control) → desk_end ≤ length m → length new ≡ length (row_of m) →
+    new ≡ put_key key weight 0 (row_of m) → key ≡ path_key m → weight ≡ entry_weight m → room_for key 0 (row_of m) ≡ true →
+    a ≡ survey k (put_mid row_at row_words m new) → a ≡ loaded k m Write
+write_fits k m new key weight a h l e p w f is =
+    is ∙ ap (survey k) (row_written m new _ h l (e ∙ ap₂ (λ x y. put_key x y 0 (row_of m)) p w))
+    ∙ sym (pick_true (room_for (path_key m) 0 (row_of m)) (survey k (named 0 m)) _ (ap (λ x. room_for x 0 (row_of m)) (sym p) ∙ f))
+
+-- a file is taken out of the row
+pub take_none : (k : Control) (m new key : List ℕ) (weight : ℕ) (q : Request) → desk_end ≤ length m → length new ≡ length (row_of m) →
+    new ≡ take_key key weight (row_of m) → key ≡ path_key m → has_key key (row_of m) ≡ false → q ≡ Refuse 3 →
+    asked k (put_mid row_at row_words m new) q ≡ loaded k m Drop
+take_none k m new key weight q h l e p f r =
+    ap₂ (asked k) (take_fails m new key weight h l e f) r
+    ∙ sym (pick_false (has_key (path_key m) (row_of m)) _ (asked k m (Refuse 3)) (ap (λ x. has_key x (row_of m)) (sym p) ∙ f))
+
+pub take_some : (k : Control) (m new key : List ℕ) (weight page : ℕ) (a : Asked Control) → desk_end ≤ length m → length new ≡ length (row_of m) →
+    new ≡ take_key key weight (row_of m) → key ≡ path_key m → weight ≡ entry_weight m → has_key key (row_of m) ≡ true →
+    page ≡ head_word (put_mid row_at row_words m new) 1 → a ≡ lay_tree k (put_mid row_at row_words m new) page → a ≡ loaded k m Drop
+take_some k m new key weight page a h l e p w f g is =
+    let row : put_mid row_at row_words m new ≡ with_row (take_key (path_key m) (entry_weight m) (row_of m)) m =
+    row_written m new _ h l (e ∙ ap₂ (λ x y. take_key x y (row_of m)) p w) in
+    is ∙ ap₂ (lay_tree k) row (g ∙ ap (λ x. head_word x 1) row ∙ head_stays (take_key (path_key m) (entry_weight m) (row_of m)) m h)
+    ∙ sym (pick_true (has_key (path_key m) (row_of m)) _ (asked k m (Refuse 3)) (ap (λ x. has_key x (row_of m)) (sym p) ∙ f))
+
+-- THE TASK BEGINS
+pub started_loads : (k : Control) (m : List ℕ) (t : Task) → (t ≡ Nothing → ⊥) → (t ≡ Leave → ⊥) → load k m ≡ started k m t
+started_loads k m Nothing f g = absurd (f refl)
+started_loads k m Write f g = refl
+started_loads k m Drop f g = refl
+started_loads k m Read f g = refl
+started_loads k m Status f g = refl
+started_loads k m Leave f g = absurd (g refl)
+
+-- the tree in work is asked for, if there is one
+pub no_tree : (k : Control) (m m₁ : List ℕ) (root : ℕ) (a : Asked Control) → root ≡ head_word m 2 → root ≡ 0 → m₁ ≡ emptied row_at m → a ≡ loaded k m₁ k.task → a ≡ load k m
+no_tree k m m₁ root a e z n is =
+    is ∙ ap (λ x. loaded k x k.task) n ∙ sym (pick_true (eqb (head_word m 2) 0) _ _ (eq-eqb (head_word m 2) 0 (sym e ∙ z)))
+
+pub some_tree : (k : Control) (m : List ℕ) (root at : ℕ) → root ≡ head_word m 2 → (root ≡ 0 → ⊥) → at ≡ min ((root - 1) * 8) 18446744073709551615 →
+    asked (at_phase Loading k) m (Object at buffer_words) ≡ load k m
+some_tree k m root at e z n =
+    ap (λ x. asked (at_phase Loading k) m (Object x buffer_words)) (eightfold (head_word m 2 - 1) (root - 1) at (ap (λ x. x - 1) e) n)
+    ∙ sym (pick_false (eqb (head_word m 2) 0) _ _ (false_unless (eqb (head_word m 2) 0) (λ t. z (e ∙ eqb-true (head_word m 2) 0 t))))
+
+-- it sweeps first, or goes on
+pub sweeps_first : (k : Control) (m : List ℕ) (a b : Bool) (r : Asked Control) → a ≡ lays k.task → b ≡ tight k.pages m → a ≡ true → b ≡ true →
+    r ≡ swung (sweeping k) (again k) (sweep_begun k.sweep m) → r ≡ recalled k m
+sweeps_first k m a b r e f s t is = is ∙ sym (pick_true (lays k.task && tight k.pages m) _ _ (and_from (lays k.task) (tight k.pages m) (sym e ∙ s) (sym f ∙ t)))
+
+pub goes_on : (k : Control) (m : List ℕ) (a : Bool) (r : Asked Control) → a ≡ (lays k.task && tight k.pages m) → a ≡ false → r ≡ started k m k.task → r ≡ recalled k m
+goes_on k m a r e f is = is ∙ sym (pick_false (lays k.task && tight k.pages m) _ _ (sym e ∙ f))
+
+-- a memory that is long enough goes on by its phase
+pub resumes_in : (k : Control) (m : List ℕ) (p : Phase) → desk_end ≤ length m → k.phase ≡ p → resumed k m p ≡ control_resumes k m
+resumes_in k m p h e =
+    ap (resumed k m) (sym e) ∙ sym (pick_false (ltb (length m) desk_end) (asked k m (Refuse 2)) (resumed k m k.phase) (le-ltb (length m) desk_end h))
