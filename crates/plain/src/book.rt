@@ -1,5 +1,6 @@
 // All commits there ever were, numbered as they came; their ids; which come before which.
-ghost use Rattle.std.specs.Prelude.{◌≡◌, ◌<◌, IfOk, take, vec_len};
+ghost use Rattle.plain.specs.Grown.{Grown};
+ghost use Rattle.std.specs.Prelude.{◌≡◌, ◌<◌, IfOk, vec_len};
 
 use crate::tree::Tree;
 use pages::bytes::in_eight;
@@ -110,7 +111,7 @@ impl Book {
         words: Vec<u8>,
     ) -> Result<usize, AllocError>
         ensures number { IfOk result (λ k. k < vec_len self.new.commits) }
-        ensures old_stay { take (vec_len self.old.commits) self.new.commits.items ≡ self.old.commits.items }
+        ensures old_stay { Grown self.old.commits.items self.new.commits.items }
     {
         let there = self.commits.iter().position(|old| {
             old.stamp == stamp && old.parents == parents && old.words == words && old.tree == tree

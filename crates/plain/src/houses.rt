@@ -1,4 +1,5 @@
 // The plain houses: what each command shows, or why it is refused, and what is afterwards.
+ghost use Rattle.plain.specs.Grown.{Grown};
 ghost use Rattle.std.specs.Prelude.{◌≡◌, IfOk, OnErr};
 
 use crate::book::Book;
@@ -203,7 +204,9 @@ impl House {
         Ok(Shown::nothing(self.heap()))
     }
 
-    fn commit(&mut self, book: &mut Book, stamp: u64, words: &[u8]) -> Result<Shown, Trouble> {
+    fn commit(&mut self, book: &mut Book, stamp: u64, words: &[u8]) -> Result<Shown, Trouble>
+        ensures { Grown book.old.commits.items book.new.commits.items }
+    {
         let heap = book.heap;
         refusal::of_commit(!self.unsettled.is_empty(), self.is_unchanged(book))?;
         let mut parents = Vec::new(heap);
@@ -332,7 +335,9 @@ impl House {
         })
     }
 
-    fn move_onto(&mut self, book: &mut Book, name: &[u8]) -> Result<Shown, Trouble> {
+    fn move_onto(&mut self, book: &mut Book, name: &[u8]) -> Result<Shown, Trouble>
+        ensures { Grown book.old.commits.items book.new.commits.items }
+    {
         let (j, k) = self.apart(book, name)?;
         if book.under(k, j)? {
             return self.move_ahead(book, j);
@@ -348,7 +353,9 @@ impl House {
         Ok(Shown::ids(book, way.made.as_slice())?)
     }
 
-    fn carry(&mut self, book: &mut Book, id: &[u8]) -> Result<Shown, Trouble> {
+    fn carry(&mut self, book: &mut Book, id: &[u8]) -> Result<Shown, Trouble>
+        ensures { Grown book.old.commits.items book.new.commits.items }
+    {
         let j = self.by_id(book, id)?.ok_or(Refusal::NotThere)?;
         let k = self.tip().ok_or(Refusal::NotThere)?;
         let unclean = !self.is_unchanged(book);
@@ -499,7 +506,9 @@ fn ours_alone(book: &Book, j: usize, k: usize) -> Result<Vec<usize>, AllocError>
 }
 
 // One commit once more on top of another; false where it clashes, has two parents or makes too many files.
-fn carry_one(book: &mut Book, way: &mut Way, k: usize) -> Result<bool, AllocError> {
+fn carry_one(book: &mut Book, way: &mut Way, k: usize) -> Result<bool, AllocError>
+    ensures { Grown book.old.commits.items book.new.commits.items }
+{
     let Some(commit) = book.get(k) else {
         return Ok(false);
     };
@@ -521,7 +530,10 @@ fn carry_one(book: &mut Book, way: &mut Way, k: usize) -> Result<bool, AllocErro
     Ok(true)
 }
 
-fn carry_all(book: &mut Book, at: usize, mine: &[usize]) -> Result<Option<Way>, AllocError> {
+#[tactic(auto, using(crate::proofs::GrownLaws::grown_on))]
+fn carry_all(book: &mut Book, at: usize, mine: &[usize]) -> Result<Option<Way>, AllocError>
+    ensures { Grown book.old.commits.items book.new.commits.items }
+{
     let mut way = Way {
         at,
         made: Vec::new(book.heap),
@@ -556,7 +568,9 @@ impl Plain {
         Ok(Shown::nothing(self.heap))
     }
 
-    fn set_house(&mut self, c: usize, house: House) {
+    fn set_house(&mut self, c: usize, house: House)
+        ensures { self.new.book ≡ self.old.book }
+    {
         if let Some(place) = self.houses.get_mut(c) {
             *place = house;
         }
@@ -564,7 +578,8 @@ impl Plain {
 
     // What the command does at house c, of which x is a copy that is changed; a refusal leaves both as they come.
     fn turned(&mut self, x: &mut House, c: usize, command: Command<'_>) -> Result<Shown, Trouble>
-        ensures { self.new.houses ≡ self.old.houses }
+        ensures houses { self.new.houses ≡ self.old.houses }
+        ensures book { Grown self.old.book.commits.items self.new.book.commits.items }
     {
         match command {
             Command::WriteFile(path, bytes) => x.write_file(path, bytes),
@@ -595,8 +610,9 @@ impl Plain {
         c: usize,
         command: Command<'_>,
     ) -> Result<Result<Shown, Refusal>, AllocError>
-        ensures refused { IfOk result (λ r. OnErr r (self.new.houses ≡ self.old.houses)) }
-        ensures err { OnErr result (self.new.houses ≡ self.old.houses) }
+        ensures refused { IfOk result (λ r. OnErr r ((self.new.houses ≡ self.old.houses) × (self.new.book.commits.items ≡ self.old.book.commits.items))) }
+        ensures err { OnErr result ((self.new.houses ≡ self.old.houses) × (self.new.book.commits.items ≡ self.old.book.commits.items)) }
+        ensures book { Grown self.old.book.commits.items self.new.book.commits.items }
     {
         let Some(house) = self.houses.get(c) else {
             return Ok(Err(Refusal::NotThere));
