@@ -1,5 +1,9 @@
 // All commits there ever were, numbered as they came; their ids; which come before which.
+ghost use Rattle.house.specs.House.{tree_of};
+ghost use Rattle.plain.specs.Files.{book_of, held_or_empty, one};
 ghost use Rattle.plain.specs.Grown.{Grown};
+ghost use Rattle.plain.specs.Sides.{rows};
+ghost use Rattle.trees.specs.Tree.{found};
 ghost use Rattle.std.specs.Prelude.{◌≡◌, ◌<◌, IfOk, vec_len};
 
 use crate::tree::Tree;
@@ -60,7 +64,9 @@ impl Book {
     }
 
     // The tree of a commit; none where there is no commit.
-    pub fn tree(&self, k: Option<usize>) -> Option<&Tree> {
+    pub fn tree(&self, k: Option<usize>) -> Option<&Tree>
+        ensures { held_or_empty result ≡ tree_of (book_of self.now) (one k) }
+    {
         Some(&self.commits.get(k?)?.tree)
     }
 
@@ -72,7 +78,9 @@ impl Book {
     }
 
     // What a path holds in the tree of a commit.
-    pub fn found(&self, k: Option<usize>, path: &[u8]) -> Option<&[u8]> {
+    pub fn found(&self, k: Option<usize>, path: &[u8]) -> Option<&[u8]>
+        ensures { rows result ≡ found (tree_of (book_of self.now) (one k)) path.now }
+    {
         self.tree(k)?.find(path)
     }
 

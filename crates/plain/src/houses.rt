@@ -1,5 +1,9 @@
 // The plain houses: what each command shows, or why it is refused, and what is afterwards.
+ghost use Rattle.house.specs.House.{all_refs, ref_of, tip};
+ghost use Rattle.plain.specs.Files.{Marks, house_of, one};
 ghost use Rattle.plain.specs.Grown.{Grown};
+ghost use Rattle.plain.specs.Replies.{taken_at};
+ghost use Rattle.plain.specs.Sides.{rows};
 ghost use Rattle.std.specs.Prelude.{◌≡◌, IfOk, OnErr};
 
 use crate::book::Book;
@@ -129,12 +133,17 @@ impl House {
         *self.here.allocator()
     }
 
-    pub fn tip(&self) -> Option<usize> {
+    // The commit of the branch on which one works.
+    pub fn tip(&self) -> Option<usize>
+        ensures { one result ≡ tip (house_of self.now) }
+    {
         self.branches.get(self.here.as_slice()).copied()
     }
 
-    // The commit of a branch, a tag or another house's branch.
-    pub fn named(&self, name: &[u8]) -> Option<usize> {
+    // The commit of a branch, a tag or another house's branch, looked up in this order.
+    pub fn named(&self, name: &[u8]) -> Option<usize>
+        ensures { one result ≡ ref_of (all_refs (house_of self.now)) name.now }
+    {
         let found = self.branches.get(name).or(self.tags.get(name));
         found.or(self.others.get(name)).copied()
     }
@@ -167,10 +176,11 @@ impl House {
         same && self.joining.is_none()
     }
 
-    fn is_taken(&self, name: &[u8]) -> bool {
-        self.branches.contains_key(name)
-            || self.tags.contains_key(name)
-            || self.here.as_slice() == name
+    fn is_taken(&self, name: &[u8]) -> bool
+        ensures { result ≡ taken_at (house_of self.now) name.now }
+    {
+        let found = self.branches.get(name).or(self.tags.get(name));
+        found.is_some() || self.here.as_slice() == name
     }
 
     // The tree of a commit in work, and nothing else.
@@ -267,13 +277,7 @@ impl House {
         let mut rows = Vec::new(heap);
         let old = book.tree_copy(self.tip())?;
         for path in old.paths_of_both(heap, &self.work)?.iter() {
-            let kind = match (old.find(path), self.work.find(path)) {
-                (was, is) if alike(was, is) => None,
-                (None, _) => Some(1),
-                (_, None) => Some(3),
-                _ => Some(2),
-            };
-            if let Some(kind) = kind {
+            if let Some(kind) = mark_of(old.find(path), self.work.find(path)) {
                 rows.push(marked_path(heap, kind, path)?)?;
             }
         }
@@ -412,6 +416,20 @@ impl House {
             self.others.insert(name, *to)?;
         }
         Ok(())
+    }
+}
+
+// What differs at a path from what was there: 1 new, 2 changed, 3 gone.
+fn mark_of(was: Option<&[u8]>, is: Option<&[u8]>) -> Option<u8>
+    ensures { Marks (rows was.entry) (rows is.entry) result }
+{
+    if alike(was, is) {
+        return None;
+    }
+    match (was, is) {
+        (None, _) => Some(1),
+        (_, None) => Some(3),
+        _ => Some(2),
     }
 }
 

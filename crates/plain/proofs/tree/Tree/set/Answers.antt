@@ -1,5 +1,5 @@
-use Rattle.std.proofs.Common.{◌≡◌, ap, ◌∙◌, sym, rules}
-use Rattle.trees.specs.Tree.{put, set, without}
+use Rattle.std.proofs.Common.{◌≡◌, ap, ◌∙◌, sym}
+use Rattle.trees.specs.Tree.{put, set}
 use Rattle.plain.specs.Files.{held}
 use Rattle.plain.specs.Sides.{rows}
 use Rattle.plain.proofs.FileLaws.{set_none, set_some}
@@ -8,7 +8,7 @@ use Rattle.plain.proofs.tree.Tree.set.Goals as goal
 pub returns-in-Some-clause-ok : goal.returns-in-Some-clause-ok
 returns-in-Some-clause-ok c =
     let e : put c.args.path.now c.in-Some.bytes.now (held c.args.self.now) ≡ set c.args.path.now (rows c.args.row) (held c.args.self.now) =
-        sym (ap (λ r. set c.args.path.now (rows r) (held c.args.self.now)) c.in-Some.is ∙ set_some c.args.path.now c.in-Some.bytes.now (held c.args.self.now)) in
+    sym (ap (λ r. set c.args.path.now (rows r) (held c.args.self.now)) c.in-Some.is ∙ set_some c.args.path.now c.in-Some.bytes.now (held c.args.self.now)) in
     rw (← e) c.put.ensures.ok
 
 pub returns-in-None-clause-ok : goal.returns-in-None-clause-ok
