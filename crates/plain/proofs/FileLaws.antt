@@ -15,7 +15,7 @@ use Rattle.house.specs.House.{Ref, ref_of, tree_of}
 use Rattle.history.specs.Book.{Book, nth}
 use Rattle.history.proofs.BookLaws.{nth_beyond}
 use Rattle.plain.specs.declared.book.Commit.{Commit as HeldCommit}
-use Rattle.trees.specs.Tree.{Tree, alike, found, mark, put, set, without}
+use Rattle.trees.specs.Tree.{Tree, alike, found, mark, put, same_tree, set, without}
 use Rattle.trees.proofs.KeyLaws.{compared}
 use Rattle.plain.specs.Files.{Marks, commit_of, file_of, held, name_of, one}
 
@@ -170,6 +170,24 @@ taken_else s true true p q = refl
 taken_else s true false p q = refl
 taken_else s false e p q = cc
 
+some_name : (o : Option ℕ) → not (is_some o) ≡ none_of (one o)
+some_name None = refl
+some_name (Some k) = refl
+
+turned_round : (s b : Bool) → s ≡ not b → b ≡ not s
+turned_round s true e = sym (ap not e)
+turned_round s false e = sym (ap not e)
+
+pub none_name : (o : Option ℕ) (b : Bool) → is_some o ≡ not b → b ≡ none_of (one o)
+none_name o b e = turned_round (is_some o) b e ∙ some_name o
+
+-- whether code misses a name, and is at one
+pub missing_name : (n : List ℕ) (es : List (Vec ℕ Global × ℕ)) (b : Bool) → b ≡ is_some (lookup (is_at (by_key n)) es) → not b ≡ none_of (ref_of (each name_of es) n)
+missing_name n es b e = ap not e ∙ some_name (lookup (is_at (by_key n)) es) ∙ ap none_of (name_held n es)
+
+pub same_name : (here n h : List ℕ) (b : Bool) → b ≡ pointwise (λ m n. m == n) h n → h ≡ here → b ≡ same n here
+same_name here n h b e f = e ∙ ap (λ x. pointwise (λ m n. m == n) x n) f ∙ same_slices here n ∙ same_either here n
+
 -- a name is taken where it is found, or where one works there
 pub taken_found : (n here : List ℕ) (rs : List Ref) (o : Option (Bor ℕ)) → one (option_copied o) ≡ ref_of rs n → is_some o ≡ true
     → true ≡ not (none_of (ref_of rs n) && not (same n here))
@@ -227,3 +245,22 @@ marks_gone O N a q g h old now p e f = rw (e, f, q, g, h) refl
 pub marks_changed : (O N : List (List ℕ)) (a b : List ℕ) → alike O N ≡ false → O ≡ a ∷ [] → N ≡ b ∷ [] → Marks O N (Some 2)
 unfolding mark
 marks_changed O N a b q g h old now p e f = rw (e, f, q, g, h) refl
+
+-- two trees that code compares
+abbrev pub as_code : List (Vec ℕ Global × Vec ℕ Global) → List (Vec ℕ Global × Vec ℕ Global) → Bool
+as_code es fs = pointwise (λ p q. pointwise (λ m n. m == n) p.0.items q.0.items && pointwise (λ m n. m == n) p.1.items q.1.items) es fs
+
+pub same_trees : (es fs : List (Vec ℕ Global × Vec ℕ Global)) → as_code es fs ≡ same_tree (each file_of es) (each file_of fs)
+unfolding same_tree
+same_trees [] [] = refl
+same_trees [] (f ∷ fs) = refl
+same_trees (e ∷ es) [] = refl
+same_trees (e ∷ es) (f ∷ fs) =
+    ap (λ b. b && pointwise (λ m n. m == n) e.1.items f.1.items && as_code es fs) (same_slices e.0.items f.0.items)
+    ∙ ap (λ b. same e.0.items f.0.items && b && as_code es fs) (same_slices e.1.items f.1.items)
+    ∙ ap (λ b. same e.0.items f.0.items && same e.1.items f.1.items && b) (same_trees es fs)
+
+pub empty_tree : (es : List (Vec ℕ Global × Vec ℕ Global)) → (length es == 0) ≡ same_tree (each file_of es) []
+unfolding same_tree
+empty_tree [] = refl
+empty_tree (e ∷ es) = grind (arith, nat_tests)

@@ -1,5 +1,5 @@
 -- What code holds of files, commits and names, as the plain definitions have them; and what joins them. Assumes nothing: these are definitions.
-use Rattle.std.specs.Prelude.{◌≡◌, ℕ, List, [], ◌∷◌, Some, None, Option, Vec}
+use Rattle.std.specs.Prelude.{◌≡◌, ℕ, List, [], ◌∷◌, Some, None, Option, Result, Ok, Err, Vec}
 use Rattle.std.specs.Borrow.{Bor}
 use Rattle.std.specs.BTreeMap.{BTreeMap}
 use Rattle.std.specs.Global.{Global}
@@ -11,6 +11,12 @@ use Rattle.plain.specs.declared.tree.Tree.{Tree as Held}
 use Rattle.plain.specs.declared.book.Commit.{Commit as HeldCommit}
 use Rattle.plain.specs.declared.book.Book.{Book as HeldBook}
 use Rattle.plain.specs.declared.houses.House.{House as HeldHouse}
+use Rattle.plain.specs.declared.houses.Shown.{Shown}
+use Rattle.plain.specs.declared.houses.Trouble.{Trouble}
+use Rattle.plain.specs.declared.houses.Trouble.TheVariants.{Memory, Refused}
+use Rattle.commands.specs.Refusal.{number_of}
+use Rattle.commands.specs.declared.refusal.Refusal.{Refusal}
+use Rattle.std.specs.declared.alloc.AllocError.{AllocError}
 
 abbrev pub file_of : Vec ℕ Global × Vec ℕ Global → File
 file_of e = record { path = e.0.items; bytes = e.1.items }
@@ -60,3 +66,32 @@ marked (Some kind) p = (kind ∷ p) ∷ []
 -- whatever the trees: if these rows are at the path, in the old one and now, then this mark is what differs there
 abbrev pub Marks : List (List ℕ) → List (List ℕ) → Option ℕ → Type 0
 Marks was is kind = (old now : Tree) (p : List ℕ) → found old p ≡ was → found now p ≡ is → mark old now p ≡ marked kind p
+
+abbrev pub rows_shown : Shown → List (List ℕ)
+rows_shown s = each (λ r. r.items) s.rows.items
+
+-- these rows are shown; refused with 3 where there is none
+abbrev pub Shows : Result Shown Trouble → List (List ℕ) → Type 0
+Shows (Ok s) rs = rows_shown s ≡ rs
+Shows (Err (Memory e)) rs = Unit {0}
+Shows (Err (Refused why)) rs = (number_of why ≡ 3) × (rs ≡ [])
+
+-- the work is this afterwards; or the command is refused by this number, and this holds of the rows that were at the path
+abbrev pub Works : Result Shown Trouble → Tree → Tree → ℕ → Type 0 → Type 0
+Works (Ok s) new wanted n P = new ≡ wanted
+Works (Err (Memory e)) new wanted n P = Unit {0}
+Works (Err (Refused why)) new wanted n P = (number_of why ≡ n) × P
+
+-- the commit for a new name, or the reply by which it is refused
+abbrev pub NewName : Result ℕ Refusal → List ℕ → ℕ → Type 0
+NewName (Ok k) ks reply = (ks ≡ k ∷ []) × (reply ≡ 0)
+NewName (Err why) ks reply = number_of why ≡ reply
+
+abbrev pub IsMemory : Trouble → Type 0
+IsMemory trouble = (e : AllocError) × (trouble ≡ Memory e)
+
+-- done where the reply is 0, and refused by it where it is not
+abbrev pub Replies : Result Shown Trouble → ℕ → Type 0
+Replies (Ok s) reply = reply ≡ 0
+Replies (Err (Memory e)) reply = Unit {0}
+Replies (Err (Refused why)) reply = number_of why ≡ reply

@@ -1,10 +1,13 @@
 // The plain houses: what each command shows, or why it is refused, and what is afterwards.
-ghost use Rattle.house.specs.House.{all_refs, ref_of, tip};
-ghost use Rattle.plain.specs.Files.{Marks, house_of, one};
+ghost use Rattle.house.specs.House.{all_refs, clean, ref_of, tip, tree_of};
+ghost use Rattle.trees.specs.Tree.{found, put, without};
+ghost use Rattle.plain.specs.Files.{IsMemory, Marks, NewName, Replies, Shows, Works, book_of, house_of, one, rows_shown};
 ghost use Rattle.plain.specs.Grown.{Grown};
-ghost use Rattle.plain.specs.Replies.{taken_at};
+ghost use Rattle.pages.specs.Lists.{none_of, same};
+ghost use Rattle.plain.specs.Replies.{of_forgetting, of_going, of_name, taken_at};
 ghost use Rattle.plain.specs.Sides.{rows};
-ghost use Rattle.std.specs.Prelude.{◌≡◌, IfOk, OnErr};
+ghost use Rattle.plain.specs.declared.houses.Trouble.TheVariants.{Memory, Refused};
+ghost use Rattle.std.specs.Prelude.{◌≡◌, [], ◌∷◌, not, IfOk, OnErr};
 
 use crate::book::Book;
 use crate::refusal;
@@ -59,18 +62,24 @@ enum Trouble {
 }
 
 impl From<AllocError> for Trouble {
+    ghost from_gives = { λ error trouble. trouble ≡ Memory error };
+
     fn from(error: AllocError) -> Trouble {
         Trouble::Memory(error)
     }
 }
 
 impl<T: Drop> From<AllocFailed<T>> for Trouble {
+    ghost from_gives = { λ _ trouble. IsMemory trouble };
+
     fn from(error: AllocFailed<T>) -> Trouble {
         Trouble::Memory(AllocError::from(error))
     }
 }
 
 impl From<Refusal> for Trouble {
+    ghost from_gives = { λ refusal trouble. trouble ≡ Refused refusal };
+
     fn from(refusal: Refusal) -> Trouble {
         Trouble::Refused(refusal)
     }
@@ -99,7 +108,9 @@ impl Shown {
         }
     }
 
-    fn row(heap: Global, form: Form, row: &[u8]) -> Result<Shown, AllocError> {
+    fn row(heap: Global, form: Form, row: &[u8]) -> Result<Shown, AllocError>
+        ensures { IfOk result (λ s. rows_shown s ≡ row.now ∷ []) }
+    {
         let rows = vec![in heap; row.to_vec(heap)?]?;
         Ok(Shown { form, rows })
     }
@@ -168,12 +179,11 @@ impl House {
         book.back(starts.as_slice())
     }
 
-    fn is_unchanged(&self, book: &Book) -> bool {
-        let same = match book.tree(self.tip()) {
-            Some(tree) => *tree == self.work,
-            None => self.work.is_empty(),
-        };
-        same && self.joining.is_none()
+    // Whether work is as at our commit, and nothing is being joined.
+    fn is_unchanged(&self, book: &Book) -> bool
+        ensures { result ≡ clean (book_of book.now) (house_of self.now) }
+    {
+        self.work.is_as(book.tree(self.tip())) && self.joining.is_none()
     }
 
     fn is_taken(&self, name: &[u8]) -> bool
@@ -197,7 +207,9 @@ impl House {
         self.take_up(book, Some(k))
     }
 
-    fn write_file(&mut self, path: &[u8], bytes: &[u8]) -> Result<Shown, Trouble> {
+    fn write_file(&mut self, path: &[u8], bytes: &[u8]) -> Result<Shown, Trouble>
+        ensures { Works result (house_of self.new).work (put path.now bytes.now (house_of self.old).work) 10 (found (house_of self.old).work path.now ≡ []) }
+    {
         let heap = self.heap();
         if self.work.find(path).is_none() && self.work.len() >= MOST_FILES {
             return Err(Trouble::Refused(Refusal::TooManyFiles));
@@ -207,7 +219,9 @@ impl House {
         Ok(Shown::nothing(heap))
     }
 
-    fn drop_file(&mut self, path: &[u8]) -> Result<Shown, Trouble> {
+    fn drop_file(&mut self, path: &[u8]) -> Result<Shown, Trouble>
+        ensures { Works result (house_of self.new).work (without path.now (house_of self.old).work) 3 (found (house_of self.old).work path.now ≡ []) }
+    {
         self.work.find(path).ok_or(Refusal::NotThere)?;
         self.work.remove(path);
         self.unsettled.remove(path);
@@ -228,28 +242,36 @@ impl House {
     }
 
     // The commit where we are, for a new name.
-    fn tip_for(&self, name: &[u8]) -> Result<usize, Refusal> {
+    fn tip_for(&self, name: &[u8]) -> Result<usize, Refusal>
+        ensures { NewName result (tip (house_of self.now)) (of_name (taken_at (house_of self.now) name.now) (none_of (tip (house_of self.now)))) }
+    {
         let tip = self.tip();
         refusal::of_name(self.is_taken(name), tip.is_none())?;
         tip.ok_or(Refusal::NotThere)
     }
 
     // As it stands: this and `tag` share `tip_for`; one function for both would need a closure that picks the map.
-    fn branch(&mut self, name: &[u8]) -> Result<Shown, Trouble> {
+    fn branch(&mut self, name: &[u8]) -> Result<Shown, Trouble>
+        ensures { Replies result (of_name (taken_at (house_of self.old) name.now) (none_of (tip (house_of self.old)))) }
+    {
         let heap = self.heap();
         let k = self.tip_for(name)?;
         self.branches.insert(name.to_vec(heap)?, k)?;
         Ok(Shown::nothing(heap))
     }
 
-    fn tag(&mut self, name: &[u8]) -> Result<Shown, Trouble> {
+    fn tag(&mut self, name: &[u8]) -> Result<Shown, Trouble>
+        ensures { Replies result (of_name (taken_at (house_of self.old) name.now) (none_of (tip (house_of self.old)))) }
+    {
         let heap = self.heap();
         let k = self.tip_for(name)?;
         self.tags.insert(name.to_vec(heap)?, k)?;
         Ok(Shown::nothing(heap))
     }
 
-    fn go_to(&mut self, book: &Book, name: &[u8]) -> Result<Shown, Trouble> {
+    fn go_to(&mut self, book: &Book, name: &[u8]) -> Result<Shown, Trouble>
+        ensures { Replies result (of_going (none_of (ref_of (house_of self.old).branches name.now)) (not (clean (book_of book.now) (house_of self.old)))) }
+    {
         let there = self.branches.get(name).copied();
         refusal::of_going(there.is_none(), !self.is_unchanged(book))?;
         self.here = name.to_vec(book.heap)?;
@@ -376,7 +398,9 @@ impl House {
         Ok(reached.iter().copied().find(|k| &book.id(*k)[..] == id))
     }
 
-    fn forget(&mut self, name: &[u8]) -> Result<Shown, Trouble> {
+    fn forget(&mut self, name: &[u8]) -> Result<Shown, Trouble>
+        ensures { Replies result (of_forgetting (none_of (ref_of (house_of self.old).branches name.now)) (same name.now (house_of self.old).here)) }
+    {
         let missing = !self.branches.contains_key(name);
         refusal::of_forgetting(missing, self.here.as_slice() == name)?;
         self.branches.remove(name);
@@ -384,13 +408,17 @@ impl House {
     }
 
     // The bytes at a path in work.
-    fn read_file(&self, path: &[u8]) -> Result<Shown, Trouble> {
+    fn read_file(&self, path: &[u8]) -> Result<Shown, Trouble>
+        ensures { Shows result (found (house_of self.now).work path.now) }
+    {
         let bytes = self.work.find(path).ok_or(Refusal::NotThere)?;
         Ok(Shown::row(self.heap(), Form::Rows, bytes)?)
     }
 
     // The bytes at a path in the tree of a name.
-    fn show_file(&self, book: &Book, name: &[u8], path: &[u8]) -> Result<Shown, Trouble> {
+    fn show_file(&self, book: &Book, name: &[u8], path: &[u8]) -> Result<Shown, Trouble>
+        ensures { Shows result (found (tree_of (book_of book.now) (ref_of (all_refs (house_of self.now)) name.now)) path.now) }
+    {
         let found = book.found(self.named(name), path);
         let bytes = found.ok_or(Refusal::NotThere)?;
         Ok(Shown::row(book.heap, Form::Rows, bytes)?)

@@ -1,9 +1,9 @@
 // Files by rising path, and how two trees are put together.
 ghost use Rattle.std.specs.BTreeMap.{btree_map_len};
 ghost use Rattle.std.specs.Prelude.{◌≡◌, ◌==◌, OnOk, OnErr};
-ghost use Rattle.plain.specs.Files.{held};
+ghost use Rattle.plain.specs.Files.{held, held_or_empty};
 ghost use Rattle.plain.specs.Sides.{Meets, is_clash, left, rows};
-ghost use Rattle.trees.specs.Tree.{alike, found, put, set, without};
+ghost use Rattle.trees.specs.Tree.{alike, found, put, same_tree, set, without};
 
 use std::alloc::{AllocError, Global};
 use std::collections::{BTreeMap, BTreeSet};
@@ -65,6 +65,16 @@ impl Tree {
         ensures { result ≡ (btree_map_len self.now.files == 0) }
     {
         self.files.is_empty()
+    }
+
+    // Whether it is the same as another one, or empty where there is no other.
+    pub fn is_as(&self, other: Option<&Tree>) -> bool
+        ensures { result ≡ same_tree (held self.now) (held_or_empty other.entry) }
+    {
+        match other {
+            Some(tree) => self == tree,
+            None => self.is_empty(),
+        }
     }
 
     // The bytes at a path, if there are any.
