@@ -69,9 +69,11 @@ begun bytes i old items h e = (2 * i, e ∙ ap (λ r. old ++ r) (digits_front by
 
 pub begun_half : (bytes : List ℕ) (i : ℕ) (old items items' : List ℕ) → i < length bytes → items ≡ old ++ digits (take i bytes)
     → items' ≡ items ++ digit (get_or bytes i 0 / 16) ∷ [] → Begun old bytes items'
-begun_half bytes i old items items' h e f =
-    (2 * i + 1, f ∙ ap (λ r. r ++ digit (get_or bytes i 0 / 16) ∷ []) e ∙ append_assoc old (digits (take i bytes)) (digit (get_or bytes i 0 / 16) ∷ [])
-    ∙ ap (λ r. old ++ r) (digits_half bytes i h))
+begun_half bytes i old items items' h e f = (
+  2 * i + 1,
+  f ∙ ap (λ r. r ++ digit (get_or bytes i 0 / 16) ∷ []) e ∙ append_assoc old (digits (take i bytes)) (digit (get_or bytes i 0 / 16) ∷ [])
+      ∙ ap (λ r. old ++ r) (digits_half bytes i h),
+)
 
 pub pair_at : (k i : ℕ) (xs : List ℕ) → i < k → 2 * k ≤ length xs →
     drop (2 * i) xs ≡ get_or (get_or (first_chunks 2 k xs) i []) 0 0 ∷ get_or (get_or (first_chunks 2 k xs) i []) 1 0 ∷ drop (2 * (i + 1)) xs
