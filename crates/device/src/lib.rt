@@ -1,7 +1,7 @@
 // A device in memory and a house's memory beside it, for trials. The device is proved to be the one of the promise.
 #![tactic(auto)]
 
-ghost use Rattle.std.specs.Prelude.{◌≡◌, ◌%◌, ◌<◌, ◌≤◌, List, [], ◌++◌, ◌∷◌, length, IfOk, MatchOption};
+ghost use Rattle.std.specs.Prelude.{◌≡◌, ◌%◌, ◌<◌, ◌≤◌, List, [], ◌++◌, ◌∷◌, length, IfOk, OnOk, OnErr, MatchOption};
 ghost use Rattle.pages.specs.Device.{Device as Held, all_written, blank, flushed, left as left_of, read_page, set_page, stopped};
 ghost use Rattle.pages.specs.Lists.{each};
 ghost use Rattle.device.specs.Held.{brought, last_of, meant};
@@ -186,9 +186,10 @@ impl Device {
         }
     }
 
-    // A write that waits from now on.
+    // A write that waits from now on; where there is no memory for it, nothing changes.
     pub fn write(&mut self, at: usize, page: Page) -> Result<(), AllocError>
-        ensures ok { IfOk result (λ _. self.new ≡ record { pages = self.old.pages; queue = self.old.queue ++ record { at = at; page = page } ∷ [] }) }
+        ensures ok { OnOk result (self.new ≡ record { pages = self.old.pages; queue = self.old.queue ++ record { at = at; page = page } ∷ [] }) }
+        ensures err { OnErr result (self.new ≡ self.old) }
     {
         self.queue.push(Write { at, page })?;
         Ok(())

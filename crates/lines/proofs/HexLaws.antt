@@ -5,7 +5,7 @@ use Rattle.std.specs.Bool.{then_some}
 use Rattle.std.proofs.lemmas.List.{take_more}
 use Rattle.std.proofs.lemmas.Bool.Decides.{nat_tests}
 use Rattle.pages.specs.Bytes.{all_bytes}
-use Rattle.lines.specs.Hex.{ReadBack, before, byte_read, bytes_read, digit, digit_read, digits}
+use Rattle.lines.specs.Hex.{Begun, ReadBack, before, byte_read, bytes_read, digit, digit_read, digits}
 
 pub digits-++ : (xs ys : List ℕ) → digits (xs ++ ys) ≡ digits xs ++ digits ys
 digits-++ [] ys = refl
@@ -46,6 +46,34 @@ pub digits_more : (bytes : List ℕ) (i : ℕ) (old items items' items'' : List 
     → items' ≡ items ++ digit (get_or bytes i 0 / 16) ∷ [] → items'' ≡ items' ++ digit (get_or bytes i 0 % 16) ∷ [] → items'' ≡ old ++ digits (take (i + 1) bytes)
 digits_more bytes i old items items' items'' h e f g =
     rw (g, f, e, take_more bytes i 0 h, digits-++ (take i bytes) (get_or bytes i 0 ∷ [])) (simp append_assoc)
+
+-- the digits of the first few bytes are the first few digits
+pub digits_front : (bytes : List ℕ) (i : ℕ) → i ≤ length bytes → digits (take i bytes) ≡ take (2 * i) (digits bytes)
+digits_front bs zero h = refl
+digits_front [] (suc i) h = absurd (omega arith)
+digits_front (b ∷ bs) (suc i) h =
+    let two : suc (suc (2 * i)) ≡ 2 * suc i = omega arith in
+    ap (λ r. digit (b / 16) ∷ digit (b % 16) ∷ r) (digits_front bs i (omega arith)) ∙ ap (λ n. take n (digits (b ∷ bs))) two
+
+-- and one digit more
+pub digits_half : (bytes : List ℕ) (i : ℕ) → i < length bytes → digits (take i bytes) ++ digit (get_or bytes i 0 / 16) ∷ [] ≡ take (2 * i + 1) (digits bytes)
+digits_half [] i h = absurd (omega arith)
+digits_half (b ∷ bs) zero h = refl
+digits_half (b ∷ bs) (suc i) h =
+    let two : suc (suc (2 * i + 1)) ≡ 2 * suc i + 1 = omega arith in
+    ap (λ r. digit (b / 16) ∷ digit (b % 16) ∷ r) (digits_half bs i (omega arith)) ∙ ap (λ n. take n (digits (b ∷ bs))) two
+
+-- whole bytes stand there, or one digit more
+pub begun : (bytes : List ℕ) (i : ℕ) (old items : List ℕ) → i ≤ length bytes → items ≡ old ++ digits (take i bytes) → Begun old bytes items
+begun bytes i old items h e = (2 * i, e ∙ ap (λ r. old ++ r) (digits_front bytes i h))
+
+pub begun_half : (bytes : List ℕ) (i : ℕ) (old items items' : List ℕ) → i < length bytes → items ≡ old ++ digits (take i bytes)
+    → items' ≡ items ++ digit (get_or bytes i 0 / 16) ∷ [] → Begun old bytes items'
+begun_half bytes i old items items' h e f = (
+  2 * i + 1,
+  f ∙ ap (λ r. r ++ digit (get_or bytes i 0 / 16) ∷ []) e ∙ append_assoc old (digits (take i bytes)) (digit (get_or bytes i 0 / 16) ∷ [])
+      ∙ ap (λ r. old ++ r) (digits_half bytes i h),
+)
 
 pub pair_at : (k i : ℕ) (xs : List ℕ) → i < k → 2 * k ≤ length xs →
     drop (2 * i) xs ≡ get_or (get_or (first_chunks 2 k xs) i []) 0 0 ∷ get_or (get_or (first_chunks 2 k xs) i []) 1 0 ∷ drop (2 * (i + 1)) xs

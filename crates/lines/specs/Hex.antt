@@ -1,5 +1,5 @@
 -- Bytes in hexadecimal, and back.
-use Rattle.std.specs.Prelude.{◌≡◌, ℕ, ◌+◌, ◌-◌, ◌*◌, ◌/◌, ◌%◌, Bool, true, cond, ◌&&◌, List, [], ◌∷◌, Some, None, Option, nat_le, nat_lt}
+use Rattle.std.specs.Prelude.{◌≡◌, ℕ, ◌+◌, ◌-◌, ◌*◌, ◌/◌, ◌%◌, Bool, true, cond, ◌&&◌, List, [], ◌∷◌, ◌++◌, take, Some, None, Option, nat_le, nat_lt}
 use Rattle.pages.specs.Bytes.{all_bytes}
 
 -- the digit of a number below 16
@@ -10,6 +10,10 @@ digit n = cond (nat_lt n 10) (48 + n) (97 + (n - 10))
 abbrev pub digits : List ℕ → List ℕ
 digits [] = []
 digits (b ∷ bs) = digit (b / 16) ∷ digit (b % 16) ∷ digits bs
+
+-- some of the digits stand behind the text
+abbrev pub Begun : List ℕ → List ℕ → List ℕ → Type 0
+Begun old bytes new = (n : ℕ) × (new ≡ old ++ take n (digits bytes))
 
 abbrev pub within : ℕ → ℕ → ℕ → Bool
 within low high n = nat_le low n && nat_le n high

@@ -1,6 +1,6 @@
 // Bytes in hexadecimal.
-ghost use Rattle.std.specs.Prelude.{◌≡◌, ◌/◌, ◌%◌, ◌<◌, [], ◌∷◌, ◌++◌, IfSome, IfOk, OnOk, Some, None, MatchOption, string_bytes};
-ghost use Rattle.lines.specs.Hex.{ReadBack, byte_read, bytes_read, digit, digit_read, digits};
+ghost use Rattle.std.specs.Prelude.{◌≡◌, ◌/◌, ◌%◌, ◌<◌, [], ◌∷◌, ◌++◌, IfSome, IfOk, OnOk, OnErr, Some, None, MatchOption, string_bytes};
+ghost use Rattle.lines.specs.Hex.{Begun, ReadBack, byte_read, bytes_read, digit, digit_read, digits};
 
 use std::alloc::{AllocError, Global};
 
@@ -33,9 +33,10 @@ pub fn byte_of(high: u8, low: u8) -> Option<u8>
     Some(16 * value_of(high)? + value_of(low)?)
 }
 
-/// Puts the bytes behind a text, in hexadecimal. After an error some of the digits may stand there.
+/// Puts the bytes behind a text, in hexadecimal. After an error the first few of the digits may stand there.
 pub fn put(text: &mut String, bytes: &[u8]) -> Result<(), AllocError>
-    ensures { OnOk result (string_bytes text.new ≡ string_bytes text.old ++ digits bytes.now) }
+    ensures ok { OnOk result (string_bytes text.new ≡ string_bytes text.old ++ digits bytes.now) }
+    ensures err { OnErr result (Begun (string_bytes text.old) bytes.now (string_bytes text.new)) }
 {
     for byte in bytes {
         text.push(digit_of(*byte / 16))?;

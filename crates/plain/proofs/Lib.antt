@@ -1,2 +1,4 @@
 pub mod ReplyLaws
 pub mod SideLaws
+pub mod GrownLaws
+pub mod FileLaws

@@ -1,2 +1,4 @@
 pub mod Sides
 pub mod Replies
+pub mod Grown
+pub mod Files

@@ -1,5 +1,10 @@
 // All commits there ever were, numbered as they came; their ids; which come before which.
-ghost use Rattle.std.specs.Prelude.{◌≡◌, ◌<◌, IfOk, take, vec_len};
+ghost use Rattle.house.specs.House.{tree_of};
+ghost use Rattle.plain.specs.Files.{book_of, held_or_empty, one};
+ghost use Rattle.plain.specs.Grown.{Grown};
+ghost use Rattle.plain.specs.Sides.{rows};
+ghost use Rattle.trees.specs.Tree.{found};
+ghost use Rattle.std.specs.Prelude.{◌≡◌, ◌<◌, IfOk, vec_len};
 
 use crate::tree::Tree;
 use pages::bytes::in_eight;
@@ -59,7 +64,9 @@ impl Book {
     }
 
     // The tree of a commit; none where there is no commit.
-    pub fn tree(&self, k: Option<usize>) -> Option<&Tree> {
+    pub fn tree(&self, k: Option<usize>) -> Option<&Tree>
+        ensures { held_or_empty result ≡ tree_of (book_of self.now) (one k) }
+    {
         Some(&self.commits.get(k?)?.tree)
     }
 
@@ -71,7 +78,9 @@ impl Book {
     }
 
     // What a path holds in the tree of a commit.
-    pub fn found(&self, k: Option<usize>, path: &[u8]) -> Option<&[u8]> {
+    pub fn found(&self, k: Option<usize>, path: &[u8]) -> Option<&[u8]>
+        ensures { rows result ≡ found (tree_of (book_of self.now) (one k)) path.now }
+    {
         self.tree(k)?.find(path)
     }
 
@@ -110,7 +119,7 @@ impl Book {
         words: Vec<u8>,
     ) -> Result<usize, AllocError>
         ensures number { IfOk result (λ k. k < vec_len self.new.commits) }
-        ensures old_stay { take (vec_len self.old.commits) self.new.commits.items ≡ self.old.commits.items }
+        ensures old_stay { Grown self.old.commits.items self.new.commits.items }
     {
         let there = self.commits.iter().position(|old| {
             old.stamp == stamp && old.parents == parents && old.words == words && old.tree == tree

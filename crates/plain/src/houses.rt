@@ -1,5 +1,13 @@
 // The plain houses: what each command shows, or why it is refused, and what is afterwards.
-ghost use Rattle.std.specs.Prelude.{◌≡◌, IfOk, OnErr};
+ghost use Rattle.house.specs.House.{all_refs, clean, ref_of, tip, tree_of};
+ghost use Rattle.trees.specs.Tree.{found, put, without};
+ghost use Rattle.plain.specs.Files.{IsMemory, Marks, NewName, Replies, Shows, Works, book_of, house_of, one, rows_shown};
+ghost use Rattle.plain.specs.Grown.{Grown};
+ghost use Rattle.pages.specs.Lists.{none_of, same};
+ghost use Rattle.plain.specs.Replies.{of_forgetting, of_going, of_name, taken_at};
+ghost use Rattle.plain.specs.Sides.{rows};
+ghost use Rattle.plain.specs.declared.houses.Trouble.TheVariants.{Memory, Refused};
+ghost use Rattle.std.specs.Prelude.{◌≡◌, [], ◌∷◌, not, IfOk, OnErr};
 
 use crate::book::Book;
 use crate::refusal;
@@ -54,18 +62,24 @@ enum Trouble {
 }
 
 impl From<AllocError> for Trouble {
+    ghost from_gives = { λ error trouble. trouble ≡ Memory error };
+
     fn from(error: AllocError) -> Trouble {
         Trouble::Memory(error)
     }
 }
 
 impl<T: Drop> From<AllocFailed<T>> for Trouble {
+    ghost from_gives = { λ _ trouble. IsMemory trouble };
+
     fn from(error: AllocFailed<T>) -> Trouble {
         Trouble::Memory(AllocError::from(error))
     }
 }
 
 impl From<Refusal> for Trouble {
+    ghost from_gives = { λ refusal trouble. trouble ≡ Refused refusal };
+
     fn from(refusal: Refusal) -> Trouble {
         Trouble::Refused(refusal)
     }
@@ -94,7 +108,9 @@ impl Shown {
         }
     }
 
-    fn row(heap: Global, form: Form, row: &[u8]) -> Result<Shown, AllocError> {
+    fn row(heap: Global, form: Form, row: &[u8]) -> Result<Shown, AllocError>
+        ensures { IfOk result (λ s. rows_shown s ≡ row.now ∷ []) }
+    {
         let rows = vec![in heap; row.to_vec(heap)?]?;
         Ok(Shown { form, rows })
     }
@@ -128,12 +144,17 @@ impl House {
         *self.here.allocator()
     }
 
-    pub fn tip(&self) -> Option<usize> {
+    // The commit of the branch on which one works.
+    pub fn tip(&self) -> Option<usize>
+        ensures { one result ≡ tip (house_of self.now) }
+    {
         self.branches.get(self.here.as_slice()).copied()
     }
 
-    // The commit of a branch, a tag or another house's branch.
-    pub fn named(&self, name: &[u8]) -> Option<usize> {
+    // The commit of a branch, a tag or another house's branch, looked up in this order.
+    pub fn named(&self, name: &[u8]) -> Option<usize>
+        ensures { one result ≡ ref_of (all_refs (house_of self.now)) name.now }
+    {
         let found = self.branches.get(name).or(self.tags.get(name));
         found.or(self.others.get(name)).copied()
     }
@@ -158,18 +179,18 @@ impl House {
         book.back(starts.as_slice())
     }
 
-    fn is_unchanged(&self, book: &Book) -> bool {
-        let same = match book.tree(self.tip()) {
-            Some(tree) => *tree == self.work,
-            None => self.work.is_empty(),
-        };
-        same && self.joining.is_none()
+    // Whether work is as at our commit, and nothing is being joined.
+    fn is_unchanged(&self, book: &Book) -> bool
+        ensures { result ≡ clean (book_of book.now) (house_of self.now) }
+    {
+        self.work.is_as(book.tree(self.tip())) && self.joining.is_none()
     }
 
-    fn is_taken(&self, name: &[u8]) -> bool {
-        self.branches.contains_key(name)
-            || self.tags.contains_key(name)
-            || self.here.as_slice() == name
+    fn is_taken(&self, name: &[u8]) -> bool
+        ensures { result ≡ taken_at (house_of self.now) name.now }
+    {
+        let found = self.branches.get(name).or(self.tags.get(name));
+        found.is_some() || self.here.as_slice() == name
     }
 
     // The tree of a commit in work, and nothing else.
@@ -186,7 +207,9 @@ impl House {
         self.take_up(book, Some(k))
     }
 
-    fn write_file(&mut self, path: &[u8], bytes: &[u8]) -> Result<Shown, Trouble> {
+    fn write_file(&mut self, path: &[u8], bytes: &[u8]) -> Result<Shown, Trouble>
+        ensures { Works result (house_of self.new).work (put path.now bytes.now (house_of self.old).work) 10 (found (house_of self.old).work path.now ≡ []) }
+    {
         let heap = self.heap();
         if self.work.find(path).is_none() && self.work.len() >= MOST_FILES {
             return Err(Trouble::Refused(Refusal::TooManyFiles));
@@ -196,14 +219,18 @@ impl House {
         Ok(Shown::nothing(heap))
     }
 
-    fn drop_file(&mut self, path: &[u8]) -> Result<Shown, Trouble> {
+    fn drop_file(&mut self, path: &[u8]) -> Result<Shown, Trouble>
+        ensures { Works result (house_of self.new).work (without path.now (house_of self.old).work) 3 (found (house_of self.old).work path.now ≡ []) }
+    {
         self.work.find(path).ok_or(Refusal::NotThere)?;
         self.work.remove(path);
         self.unsettled.remove(path);
         Ok(Shown::nothing(self.heap()))
     }
 
-    fn commit(&mut self, book: &mut Book, stamp: u64, words: &[u8]) -> Result<Shown, Trouble> {
+    fn commit(&mut self, book: &mut Book, stamp: u64, words: &[u8]) -> Result<Shown, Trouble>
+        ensures { Grown book.old.commits.items book.new.commits.items }
+    {
         let heap = book.heap;
         refusal::of_commit(!self.unsettled.is_empty(), self.is_unchanged(book))?;
         let mut parents = Vec::new(heap);
@@ -215,28 +242,36 @@ impl House {
     }
 
     // The commit where we are, for a new name.
-    fn tip_for(&self, name: &[u8]) -> Result<usize, Refusal> {
+    fn tip_for(&self, name: &[u8]) -> Result<usize, Refusal>
+        ensures { NewName result (tip (house_of self.now)) (of_name (taken_at (house_of self.now) name.now) (none_of (tip (house_of self.now)))) }
+    {
         let tip = self.tip();
         refusal::of_name(self.is_taken(name), tip.is_none())?;
         tip.ok_or(Refusal::NotThere)
     }
 
     // As it stands: this and `tag` share `tip_for`; one function for both would need a closure that picks the map.
-    fn branch(&mut self, name: &[u8]) -> Result<Shown, Trouble> {
+    fn branch(&mut self, name: &[u8]) -> Result<Shown, Trouble>
+        ensures { Replies result (of_name (taken_at (house_of self.old) name.now) (none_of (tip (house_of self.old)))) }
+    {
         let heap = self.heap();
         let k = self.tip_for(name)?;
         self.branches.insert(name.to_vec(heap)?, k)?;
         Ok(Shown::nothing(heap))
     }
 
-    fn tag(&mut self, name: &[u8]) -> Result<Shown, Trouble> {
+    fn tag(&mut self, name: &[u8]) -> Result<Shown, Trouble>
+        ensures { Replies result (of_name (taken_at (house_of self.old) name.now) (none_of (tip (house_of self.old)))) }
+    {
         let heap = self.heap();
         let k = self.tip_for(name)?;
         self.tags.insert(name.to_vec(heap)?, k)?;
         Ok(Shown::nothing(heap))
     }
 
-    fn go_to(&mut self, book: &Book, name: &[u8]) -> Result<Shown, Trouble> {
+    fn go_to(&mut self, book: &Book, name: &[u8]) -> Result<Shown, Trouble>
+        ensures { Replies result (of_going (none_of (ref_of (house_of self.old).branches name.now)) (not (clean (book_of book.now) (house_of self.old)))) }
+    {
         let there = self.branches.get(name).copied();
         refusal::of_going(there.is_none(), !self.is_unchanged(book))?;
         self.here = name.to_vec(book.heap)?;
@@ -264,13 +299,7 @@ impl House {
         let mut rows = Vec::new(heap);
         let old = book.tree_copy(self.tip())?;
         for path in old.paths_of_both(heap, &self.work)?.iter() {
-            let kind = match (old.find(path), self.work.find(path)) {
-                (was, is) if alike(was, is) => None,
-                (None, _) => Some(1),
-                (_, None) => Some(3),
-                _ => Some(2),
-            };
-            if let Some(kind) = kind {
+            if let Some(kind) = mark_of(old.find(path), self.work.find(path)) {
                 rows.push(marked_path(heap, kind, path)?)?;
             }
         }
@@ -332,7 +361,9 @@ impl House {
         })
     }
 
-    fn move_onto(&mut self, book: &mut Book, name: &[u8]) -> Result<Shown, Trouble> {
+    fn move_onto(&mut self, book: &mut Book, name: &[u8]) -> Result<Shown, Trouble>
+        ensures { Grown book.old.commits.items book.new.commits.items }
+    {
         let (j, k) = self.apart(book, name)?;
         if book.under(k, j)? {
             return self.move_ahead(book, j);
@@ -348,7 +379,9 @@ impl House {
         Ok(Shown::ids(book, way.made.as_slice())?)
     }
 
-    fn carry(&mut self, book: &mut Book, id: &[u8]) -> Result<Shown, Trouble> {
+    fn carry(&mut self, book: &mut Book, id: &[u8]) -> Result<Shown, Trouble>
+        ensures { Grown book.old.commits.items book.new.commits.items }
+    {
         let j = self.by_id(book, id)?.ok_or(Refusal::NotThere)?;
         let k = self.tip().ok_or(Refusal::NotThere)?;
         let unclean = !self.is_unchanged(book);
@@ -365,7 +398,9 @@ impl House {
         Ok(reached.iter().copied().find(|k| &book.id(*k)[..] == id))
     }
 
-    fn forget(&mut self, name: &[u8]) -> Result<Shown, Trouble> {
+    fn forget(&mut self, name: &[u8]) -> Result<Shown, Trouble>
+        ensures { Replies result (of_forgetting (none_of (ref_of (house_of self.old).branches name.now)) (same name.now (house_of self.old).here)) }
+    {
         let missing = !self.branches.contains_key(name);
         refusal::of_forgetting(missing, self.here.as_slice() == name)?;
         self.branches.remove(name);
@@ -373,13 +408,17 @@ impl House {
     }
 
     // The bytes at a path in work.
-    fn read_file(&self, path: &[u8]) -> Result<Shown, Trouble> {
+    fn read_file(&self, path: &[u8]) -> Result<Shown, Trouble>
+        ensures { Shows result (found (house_of self.now).work path.now) }
+    {
         let bytes = self.work.find(path).ok_or(Refusal::NotThere)?;
         Ok(Shown::row(self.heap(), Form::Rows, bytes)?)
     }
 
     // The bytes at a path in the tree of a name.
-    fn show_file(&self, book: &Book, name: &[u8], path: &[u8]) -> Result<Shown, Trouble> {
+    fn show_file(&self, book: &Book, name: &[u8], path: &[u8]) -> Result<Shown, Trouble>
+        ensures { Shows result (found (tree_of (book_of book.now) (ref_of (all_refs (house_of self.now)) name.now)) path.now) }
+    {
         let found = book.found(self.named(name), path);
         let bytes = found.ok_or(Refusal::NotThere)?;
         Ok(Shown::row(book.heap, Form::Rows, bytes)?)
@@ -405,6 +444,20 @@ impl House {
             self.others.insert(name, *to)?;
         }
         Ok(())
+    }
+}
+
+// What differs at a path from what was there: 1 new, 2 changed, 3 gone.
+fn mark_of(was: Option<&[u8]>, is: Option<&[u8]>) -> Option<u8>
+    ensures { Marks (rows was.entry) (rows is.entry) result }
+{
+    if alike(was, is) {
+        return None;
+    }
+    match (was, is) {
+        (None, _) => Some(1),
+        (_, None) => Some(3),
+        _ => Some(2),
     }
 }
 
@@ -499,7 +552,9 @@ fn ours_alone(book: &Book, j: usize, k: usize) -> Result<Vec<usize>, AllocError>
 }
 
 // One commit once more on top of another; false where it clashes, has two parents or makes too many files.
-fn carry_one(book: &mut Book, way: &mut Way, k: usize) -> Result<bool, AllocError> {
+fn carry_one(book: &mut Book, way: &mut Way, k: usize) -> Result<bool, AllocError>
+    ensures { Grown book.old.commits.items book.new.commits.items }
+{
     let Some(commit) = book.get(k) else {
         return Ok(false);
     };
@@ -521,7 +576,10 @@ fn carry_one(book: &mut Book, way: &mut Way, k: usize) -> Result<bool, AllocErro
     Ok(true)
 }
 
-fn carry_all(book: &mut Book, at: usize, mine: &[usize]) -> Result<Option<Way>, AllocError> {
+#[tactic(auto, using(crate::proofs::GrownLaws::grown_on))]
+fn carry_all(book: &mut Book, at: usize, mine: &[usize]) -> Result<Option<Way>, AllocError>
+    ensures { Grown book.old.commits.items book.new.commits.items }
+{
     let mut way = Way {
         at,
         made: Vec::new(book.heap),
@@ -556,7 +614,9 @@ impl Plain {
         Ok(Shown::nothing(self.heap))
     }
 
-    fn set_house(&mut self, c: usize, house: House) {
+    fn set_house(&mut self, c: usize, house: House)
+        ensures { self.new.book ≡ self.old.book }
+    {
         if let Some(place) = self.houses.get_mut(c) {
             *place = house;
         }
@@ -564,7 +624,8 @@ impl Plain {
 
     // What the command does at house c, of which x is a copy that is changed; a refusal leaves both as they come.
     fn turned(&mut self, x: &mut House, c: usize, command: Command<'_>) -> Result<Shown, Trouble>
-        ensures { self.new.houses ≡ self.old.houses }
+        ensures houses { self.new.houses ≡ self.old.houses }
+        ensures book { Grown self.old.book.commits.items self.new.book.commits.items }
     {
         match command {
             Command::WriteFile(path, bytes) => x.write_file(path, bytes),
@@ -595,8 +656,9 @@ impl Plain {
         c: usize,
         command: Command<'_>,
     ) -> Result<Result<Shown, Refusal>, AllocError>
-        ensures refused { IfOk result (λ r. OnErr r (self.new.houses ≡ self.old.houses)) }
-        ensures err { OnErr result (self.new.houses ≡ self.old.houses) }
+        ensures refused { IfOk result (λ r. OnErr r ((self.new.houses ≡ self.old.houses) × (self.new.book.commits.items ≡ self.old.book.commits.items))) }
+        ensures err { OnErr result ((self.new.houses ≡ self.old.houses) × (self.new.book.commits.items ≡ self.old.book.commits.items)) }
+        ensures book { Grown self.old.book.commits.items self.new.book.commits.items }
     {
         let Some(house) = self.houses.get(c) else {
             return Ok(Err(Refusal::NotThere));

@@ -1,8 +1,9 @@
 // Files by rising path, and how two trees are put together.
 ghost use Rattle.std.specs.BTreeMap.{btree_map_len};
-ghost use Rattle.std.specs.Prelude.{◌≡◌, ◌==◌};
+ghost use Rattle.std.specs.Prelude.{◌≡◌, ◌==◌, OnOk, OnErr};
+ghost use Rattle.plain.specs.Files.{held, held_or_empty};
 ghost use Rattle.plain.specs.Sides.{Meets, is_clash, left, rows};
-ghost use Rattle.trees.specs.Tree.{alike};
+ghost use Rattle.trees.specs.Tree.{alike, found, put, same_tree, set, without};
 
 use std::alloc::{AllocError, Global};
 use std::collections::{BTreeMap, BTreeSet};
@@ -66,21 +67,42 @@ impl Tree {
         self.files.is_empty()
     }
 
-    pub fn find(&self, path: &[u8]) -> Option<&[u8]> {
-        self.files.get(path).map(|bytes| bytes.as_slice())
+    // Whether it is the same as another one, or empty where there is no other.
+    pub fn is_as(&self, other: Option<&Tree>) -> bool
+        ensures { result ≡ same_tree (held self.now) (held_or_empty other.entry) }
+    {
+        match other {
+            Some(tree) => self == tree,
+            None => self.is_empty(),
+        }
     }
 
-    pub fn put(&mut self, heap: Global, path: &[u8], bytes: &[u8]) -> Result<(), AllocError> {
+    // The bytes at a path, if there are any.
+    pub fn find(&self, path: &[u8]) -> Option<&[u8]>
+        ensures { rows result ≡ found (held self.now) path.now }
+    {
+        Some(self.files.get(path)?.as_slice())
+    }
+
+    pub fn put(&mut self, heap: Global, path: &[u8], bytes: &[u8]) -> Result<(), AllocError>
+        ensures ok { OnOk result (held self.new ≡ put path.now bytes.now (held self.old)) }
+        ensures err { OnErr result (held self.new ≡ held self.old) }
+    {
         self.files.insert(path.to_vec(heap)?, bytes.to_vec(heap)?)?;
         Ok(())
     }
 
-    pub fn remove(&mut self, path: &[u8]) {
+    pub fn remove(&mut self, path: &[u8])
+        ensures { held self.new ≡ without path.now (held self.old) }
+    {
         let _ = self.files.remove(path);
     }
 
     // Sets what is at a path: bytes, or nothing.
-    pub fn set(&mut self, heap: Global, path: &[u8], row: Option<&[u8]>) -> Result<(), AllocError> {
+    pub fn set(&mut self, heap: Global, path: &[u8], row: Option<&[u8]>) -> Result<(), AllocError>
+        ensures ok { OnOk result (held self.new ≡ set path.now (rows row.entry) (held self.old)) }
+        ensures err { OnErr result (held self.new ≡ held self.old) }
+    {
         match row {
             Some(bytes) => self.put(heap, path, bytes),
             None => {

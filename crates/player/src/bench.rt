@@ -1,5 +1,5 @@
 // Houses that run, beside plain houses that are executed: items of a day are played at both, and their answers compared.
-use crate::day::{Item, Stop, What};
+use crate::day::{Item, Setting, Stop, What};
 use crate::driver::{Answer, End, MOST_ACTS, Pair, Run, World};
 use crate::engine::is_known;
 use crate::random::Dice;
@@ -87,6 +87,7 @@ pub struct Counts {
     pub commands: u64,
     pub powers: u64,
     pub stops: u64,
+    pub sweeps: u64,
     pub done: u64,
     // by the numbers of the refusals, from 1 on
     pub refused: [u64; 10],
@@ -119,6 +120,7 @@ impl AddAssign for Counts {
         self.commands = self.commands.saturating_add(more.commands);
         self.powers = self.powers.saturating_add(more.powers);
         self.stops = self.stops.saturating_add(more.stops);
+        self.sweeps = self.sweeps.saturating_add(more.sweeps);
         self.done = self.done.saturating_add(more.done);
         for (n, more) in self.refused.iter_mut().zip(more.refused.iter()) {
             *n = n.saturating_add(*more);
@@ -130,12 +132,13 @@ impl AddAssign for Counts {
 #[derive(Drop)]
 pub struct Bench {
     heap: Global,
-    pages: usize,
+    // how many pages each house has
+    sizes: Vec<usize>,
     worlds: Vec<World>,
     // for what a stop leaves where it may leave much
     dice: Dice,
     pub plain: Plain,
-    pub counts: Counts,
+    counts: Counts,
 }
 
 // Things to be asked, each once, in the order in which they came.
@@ -164,7 +167,7 @@ impl Queries {
         Ok(())
     }
 
-    // All that can be asked of a house: status, history, each path in work and at every name.
+    // All that can be asked of a house: status, history, and of each path what it holds in work and at every name, and from whom.
     fn add_all(&mut self, plain: &Plain, c: usize) -> Result<(), AllocError> {
         self.add(Command::Status)?;
         self.add(Command::History)?;
@@ -174,6 +177,7 @@ impl Queries {
         let names = x.all_refs()?;
         for path in paths_of(plain, x)?.iter() {
             self.add(Command::ReadFile(path))?;
+            self.add(Command::Who(path))?;
             for (name, _) in names.iter() {
                 self.add(Command::ShowFile(name, path))?;
             }
@@ -205,19 +209,37 @@ fn paths_of<'a>(plain: &'a Plain, x: &'a House) -> Result<Vec<&'a [u8]>, AllocEr
 }
 
 impl Bench {
-    pub fn new(heap: Global, houses: usize, pages: usize) -> Result<Bench, AllocError> {
+    pub fn new(heap: Global, setting: &Setting) -> Result<Bench, AllocError> {
+        let mut sizes = Vec::new(heap);
         let mut worlds = Vec::new(heap);
-        for _ in 0..houses {
+        for c in 0..setting.houses {
+            let pages = setting.pages_of(c);
+            sizes.push(pages)?;
             worlds.push(World::new(heap, pages)?)?;
         }
         Ok(Bench {
             heap,
-            pages,
+            sizes,
             worlds,
             dice: Dice::new(heap, 1),
-            plain: Plain::new(heap, houses)?,
+            plain: Plain::new(heap, setting.houses)?,
             counts: Counts::default(),
         })
+    }
+
+    // The counts of the one day that was played, on which the houses agreed or not.
+    pub fn counted(&self, agreed: bool) -> Counts {
+        let mut counts = self.counts;
+        counts.days = 1;
+        counts.disagreed = u64::from(!agreed);
+        for world in self.worlds.iter() {
+            counts.sweeps = counts.sweeps.saturating_add(world.sweeps);
+        }
+        counts
+    }
+
+    fn size(&self, c: usize) -> usize {
+        self.sizes.get(c).copied().unwrap_or(0)
     }
 
     pub fn is_up(&self, c: usize) -> bool {
@@ -317,7 +339,7 @@ impl Bench {
         match self.plain.turn(c, command)? {
             Ok(shown) => {
                 let after = self.weight(c)?;
-                let room = (self.pages as u64).saturating_mul(128);
+                let room = (self.size(c) as u64).saturating_mul(128);
                 if after > before && after > room {
                     self.undo(past);
                     return Ok(self.refused(Refusal::NoRoom));
@@ -368,28 +390,20 @@ impl Bench {
     }
 
     fn power_run(&self, c: usize) -> Result<Run, AllocError> {
-        Run::power(self.heap, c, self.worlds.len(), self.pages)
+        Run::power(self.heap, c, self.worlds.len(), self.size(c))
     }
 
-    // What a house answers that starts on these pages: how the coming of power ends, and then each query.
+    // What a house that has power answers to queries.
     fn house_answers(
         &self,
-        c: usize,
-        device: Device,
+        alone: &mut Pair,
+        power: Answer,
         queries: &[Vec<u8>],
     ) -> Result<Vec<Answer>, AllocError> {
-        let mut alone = Pair {
-            here: World::on(device),
-            there: None,
-        };
-        alone.here.wake(self.heap)?;
-        let mut all = Vec::new(self.heap);
-        let mut run = self.power_run(c)?;
-        run.drive(&mut alone, MOST_ACTS)?;
-        all.push(run.answer()?)?;
+        let mut all = vec![in self.heap; power]?;
         for text in queries {
             let mut run = Run::command(self.heap, text.as_slice(), 0)?;
-            run.drive(&mut alone, MOST_ACTS)?;
+            run.drive(alone, MOST_ACTS)?;
             all.push(run.answer()?)?;
         }
         Ok(all)
@@ -415,6 +429,23 @@ impl Bench {
         })
     }
 
+    // What can be asked before and after power comes: nothing changes.
+    fn outlook_of_power(&mut self, c: usize) -> Result<Outlook, AllocError> {
+        let mut queries = Queries::new(self.heap);
+        queries.add_all(&self.plain, c)?;
+        let old = self.plain_answers(c, queries.all.as_slice())?;
+        Ok(Outlook {
+            house: c,
+            queries: queries.all,
+            new: old.clone()?,
+            old,
+            expected: Expected {
+                answer: self.bare(End::Done),
+                may_lack_line: false,
+            },
+        })
+    }
+
     // Power comes to a house.
     fn power(&mut self, c: usize) -> Result<(), Trouble> {
         let heap = self.heap;
@@ -428,22 +459,29 @@ impl Bench {
         self.same("power", &run.answer()?, &self.bare(End::Done))
     }
 
-    // Power stops while it comes.
+    // Power stops while it comes: what is kept then is as before.
     fn power_stops(&mut self, c: usize, stop: &Stop) -> Result<(), Trouble> {
         let heap = self.heap;
+        let outlook = self.outlook_of_power(c)?;
         let mut run = self.power_run(c)?;
-        self.at_pair(c, None, |_, pair| {
+        self.at_pair(c, None, |bench, pair| {
             pair.here.wake(heap)?;
-            run.drive(pair, stop.acts)?;
-            pair.here.stop(stop.left.as_slice());
+            bench.stopped(&mut run, pair, stop, &outlook)?;
             Ok(())
+        })
+    }
+
+    // Power comes to a house, and before it every stop in that.
+    fn power_with_stops(&mut self, c: usize) -> Result<(), Trouble> {
+        let heap = self.heap;
+        let outlook = self.outlook_of_power(c)?;
+        let mut run = self.power_run(c)?;
+        self.at_pair(c, None, |bench, pair| {
+            pair.here.wake(heap)?;
+            bench.stopped_everywhere(&mut run, pair, &outlook)
         })?;
-        one_more(&mut self.counts.stops);
-        let got = run.answer()?;
-        if got == self.bare(End::Done) {
-            return Ok(());
-        }
-        self.same("power that stops", &got, &self.bare(End::Running))
+        one_more(&mut self.counts.powers);
+        self.same("power", &run.answer()?, &self.bare(End::Done))
     }
 
     // A whole command.
@@ -474,9 +512,7 @@ impl Bench {
         let mut run = Run::command(self.heap, said.text, said.letters)?;
         let mut kept = Kept::Old;
         self.at_pair(said.house, said.peer(), |bench, pair| {
-            run.drive(pair, stop.acts)?;
-            pair.here.stop(stop.left.as_slice());
-            kept = bench.kept(pair.here.device.copied()?, &outlook, &run.answer()?)?;
+            kept = bench.stopped(&mut run, pair, stop, &outlook)?;
             Ok(())
         })?;
         if let Kept::New = kept {
@@ -485,10 +521,61 @@ impl Bench {
         Ok(())
     }
 
-    // What a house keeps that starts on what a stop left in a command that stood so.
+    // A run up to a stop, and what the house keeps then.
+    fn stopped(
+        &mut self,
+        run: &mut Run,
+        pair: &mut Pair,
+        stop: &Stop,
+        outlook: &Outlook,
+    ) -> Result<Kept, Trouble> {
+        run.drive(pair, stop.acts)?;
+        pair.here.stop(stop.left.as_slice());
+        self.kept(pair.here.device.copied()?, outlook, &run.answer()?)
+    }
+
+    // What a house keeps that starts on what a stop left in a command that stood so. After each act of the power that comes to it by which the pages
+    // change there is one more stop, which has to leave as much.
     fn kept(&mut self, device: Device, outlook: &Outlook, stood: &Answer) -> Result<Kept, Trouble> {
         one_more(&mut self.counts.stops);
-        let got = self.house_answers(outlook.house, device, outlook.queries.as_slice())?;
+        let mut alone = Pair::alone(self.heap, device)?;
+        let mut run = self.power_run(outlook.house)?;
+        for _ in 0..MOST_ACTS {
+            run.drive_on(&mut alone)?;
+            if run.end != End::Running {
+                break;
+            }
+            self.each_left(&alone.here.device, |bench, left| {
+                bench.kept_again(left, outlook, stood)
+            })?;
+        }
+        self.judged(&mut alone, run.answer()?, outlook, stood)
+    }
+
+    // The same after the second of two stops.
+    fn kept_again(
+        &mut self,
+        device: Device,
+        outlook: &Outlook,
+        stood: &Answer,
+    ) -> Result<(), Trouble> {
+        one_more(&mut self.counts.stops);
+        let mut alone = Pair::alone(self.heap, device)?;
+        let mut run = self.power_run(outlook.house)?;
+        run.drive(&mut alone, MOST_ACTS)?;
+        self.judged(&mut alone, run.answer()?, outlook, stood)?;
+        Ok(())
+    }
+
+    // Whether a house to which power came so keeps what it may.
+    fn judged(
+        &self,
+        alone: &mut Pair,
+        power: Answer,
+        outlook: &Outlook,
+        stood: &Answer,
+    ) -> Result<Kept, Trouble> {
+        let got = self.house_answers(alone, power, outlook.queries.as_slice())?;
         let runs = stood.end == End::Running;
         let lacked = stood.end == End::Refused(Refusal::NoLine) && outlook.expected.may_lack_line;
         if !runs && !lacked {
@@ -538,7 +625,7 @@ impl Bench {
         }
     }
 
-    // Plays one item; a command in which no stop is said with every stop.
+    // Plays one item; power or a command in which no stop is said with every stop.
     pub fn play_with_stops(&mut self, item: &Item) -> Result<(), Trouble> {
         match (&item.what, &item.stop) {
             (What::Said(text, letters), None) => self.every_stop(Saying {
@@ -546,6 +633,7 @@ impl Bench {
                 text: text.as_slice(),
                 letters: *letters,
             }),
+            (What::Power, None) => self.power_with_stops(item.house),
             _ => self.play(item),
         }
     }
@@ -559,36 +647,52 @@ impl Bench {
         }
     }
 
-    // A whole command, and before it every stop in it: at the start, after each act that changed the pages, and at its end.
+    // A whole command, and before it every stop in it.
     fn every_stop(&mut self, said: Saying<'_>) -> Result<(), Trouble> {
         let outlook = self.outlook(said)?;
         let mut run = Run::command(self.heap, said.text, said.letters)?;
         self.at_pair(said.house, said.peer(), |bench, pair| {
-            for _ in 0..MOST_ACTS {
-                bench.all_left(&pair.here.device, &outlook, &run.answer()?)?;
-                if run.end != End::Running {
-                    break;
-                }
-                run.drive_on(pair)?;
-            }
-            Ok(())
+            bench.stopped_everywhere(&mut run, pair, &outlook)
         })?;
         self.compare(said, &run.answer()?)
     }
 
+    // A run to its end, with a stop at the start, after each act that changed the pages, and at the end. After an act that did not, what is left is
+    // what the stop before it left.
+    fn stopped_everywhere(
+        &mut self,
+        run: &mut Run,
+        pair: &mut Pair,
+        outlook: &Outlook,
+    ) -> Result<(), Trouble> {
+        for _ in 0..MOST_ACTS {
+            let stood = run.answer()?;
+            self.each_left(&pair.here.device, |bench, left| {
+                bench.kept(left, outlook, &stood)?;
+                Ok(())
+            })?;
+            if run.end != End::Running {
+                break;
+            }
+            run.drive_on(pair)?;
+        }
+        Ok(())
+    }
+
     // All, or some, of what a stop may leave of the waiting writes.
-    fn all_left(
+    fn each_left<F: FnMut(&mut Bench, Device) -> Result<(), Trouble>>(
         &mut self,
         device: &Device,
-        outlook: &Outlook,
-        stood: &Answer,
-    ) -> Result<(), Trouble> {
+        mut see: F,
+    ) -> Result<(), Trouble>
+        requires { F.IsAlwaysCallable see }
+    {
         let waiting = device.waiting();
         for i in 0..outcomes(waiting) {
             let left = self.outcome(waiting, i)?;
             let mut copy = device.copied()?;
             copy.stop(left.as_slice());
-            self.kept(copy, outlook, stood)?;
+            see(self, copy)?;
         }
         Ok(())
     }

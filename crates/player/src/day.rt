@@ -2,10 +2,17 @@
 use crate::text::{Said, cut_word, number_of, read_said};
 use device::Left;
 use std::alloc::{AllocError, Global};
+use std::collections::BTreeMap;
 use std::fmt;
 
 // More letters than any command sends.
 pub const LONG_LINE: u64 = 1000000;
+
+const MOST_HOUSES: usize = 16;
+
+const FEWEST_PAGES: usize = 64;
+
+const MOST_PAGES: usize = 1048576;
 
 // Where power stops: after so many acts, and what is left of each waiting write.
 #[derive(Clone, Drop)]
@@ -28,10 +35,17 @@ pub struct Item {
     pub stop: Option<Stop>,
 }
 
+// How many houses there are, and how many pages each has: one number for all, and others for some.
 #[derive(Drop)]
-pub struct Day {
+pub struct Setting {
     pub houses: usize,
     pub pages: usize,
+    pub own_pages: BTreeMap<usize, usize>,
+}
+
+#[derive(Drop)]
+pub struct Day {
+    pub setting: Setting,
     pub items: Vec<Item>,
     pub bad_lines: u64,
 }
@@ -145,11 +159,59 @@ impl fmt::Display for Item {
     }
 }
 
+// The lines at the top of a day.
+impl fmt::Display for Setting {
+    fn fmt<W: fmt::Write>(&self, f: &mut fmt::Formatter<W>) -> fmt::Result {
+        write!(f, "houses {}\npages {}\n", self.houses, self.pages)?;
+        for (house, pages) in self.own_pages.iter() {
+            write!(f, "pages {house} {pages}\n")?;
+        }
+        Ok(())
+    }
+}
+
+impl Setting {
+    pub fn new(heap: Global, houses: usize, pages: usize) -> Setting {
+        Setting {
+            houses,
+            pages,
+            own_pages: BTreeMap::new(heap),
+        }
+    }
+
+    pub fn pages_of(&self, house: usize) -> usize {
+        self.own_pages.get(&house).copied().unwrap_or(self.pages)
+    }
+
+    // At most 16 houses, each with 64 pages or more, and none that is not there with pages of its own.
+    pub fn is_fit(&self) -> bool {
+        let fits = |pages: usize| (FEWEST_PAGES..=MOST_PAGES).contains(&pages);
+        self.houses <= MOST_HOUSES
+            && fits(self.pages)
+            && self
+                .own_pages
+                .iter()
+                .all(|(house, pages)| *house < self.houses && fits(*pages))
+    }
+
+    // Takes in what stands behind `pages`, a number for all or a house and its number; false where it is neither.
+    fn take_pages(&mut self, text: &str) -> Result<bool, AllocError> {
+        let (first, second) = cut_word(text);
+        match (number_of(first), number_of(second)) {
+            (Some(pages), None) if second.is_empty() => self.pages = pages as usize,
+            (Some(house), Some(pages)) => {
+                self.own_pages.insert(house as usize, pages as usize)?;
+            }
+            _ => return Ok(false),
+        }
+        Ok(true)
+    }
+}
+
 impl Day {
     pub fn new(heap: Global) -> Day {
         Day {
-            houses: 2,
-            pages: 64,
+            setting: Setting::new(heap, 2, FEWEST_PAGES),
             items: Vec::new(heap),
             bad_lines: 0,
         }
@@ -161,16 +223,15 @@ impl Day {
         if word.is_empty() || word.starts_with('#') {
             return Ok(true);
         }
-        if word == "houses" || word == "pages" {
-            let Some(n) = number_of(rest) else {
+        if word == "houses" {
+            let Some(houses) = number_of(rest) else {
                 return Ok(false);
             };
-            if word == "houses" {
-                self.houses = n as usize;
-            } else {
-                self.pages = n as usize;
-            }
-            return Ok(n <= 1048576);
+            self.setting.houses = houses as usize;
+            return Ok(true);
+        }
+        if word == "pages" {
+            return self.setting.take_pages(rest);
         }
         match item_of(heap, line)? {
             Some(item) => {

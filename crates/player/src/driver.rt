@@ -3,6 +3,7 @@ use crate::engine;
 use crate::text::Spaced;
 use commands::Refusal;
 use device::{Device, Left, Page};
+use pages::bytes::number;
 use pages::cells::CELLS;
 use pages::machine::ROW;
 use pages::told::{Event, Told};
@@ -36,6 +37,10 @@ pub struct Answer {
 pub struct World {
     pub device: Device,
     memory: Option<Vec<u64>>,
+    // the first page of the window, as it was when nothing waited last
+    window: u64,
+    // flushes that brought in another first page of the window
+    pub sweeps: u64,
 }
 
 // A house at work, and another one that it may write to, with its number.
@@ -102,12 +107,19 @@ impl Answer {
     }
 }
 
+// The first page of the window: the first word of the head.
+fn window_of(device: &Device) -> u64 {
+    device.read(0).map_or(0, |head| number(&head[0..8]))
+}
+
 impl World {
     // A house that is to start on these pages.
     pub fn on(device: Device) -> World {
         World {
+            window: window_of(&device),
             device,
             memory: None,
+            sweeps: 0,
         }
     }
 
@@ -128,7 +140,18 @@ impl World {
     // Power is gone, and memory with it; of the waiting writes so much is left.
     pub fn stop(&mut self, left: &[Left]) {
         self.device.stop(left);
+        self.window = window_of(&self.device);
         self.memory = None;
+    }
+
+    // All that waits comes in; a sweep is done where the window begins elsewhere then.
+    fn flush(&mut self) {
+        self.device.flush();
+        let window = window_of(&self.device);
+        if window != self.window {
+            self.window = window;
+            self.sweeps = self.sweeps.saturating_add(1);
+        }
     }
 
     fn step(&mut self, event: Event<'_>, out: &mut [u8]) -> Told {
@@ -149,6 +172,15 @@ impl World {
         }
         self.device.write(at, *page)?;
         Ok(true)
+    }
+}
+
+impl Pair {
+    // A house on its own, to which power comes.
+    pub fn alone(heap: Global, device: Device) -> Result<Pair, AllocError> {
+        let mut here = World::on(device);
+        here.wake(heap)?;
+        Ok(Pair { here, there: None })
     }
 }
 
@@ -243,7 +275,7 @@ impl Run {
                 }
             }
             Told::Flush => {
-                pair.here.device.flush();
+                pair.here.flush();
                 self.next = Next::GoOn;
             }
             Told::Shows(count) => {
@@ -334,7 +366,7 @@ fn reply_of(world: &mut World, letter: Vec<u8>) -> Result<Reply, AllocError> {
                 run.next = Next::GoOn;
             }
             Told::Flush => {
-                world.device.flush();
+                world.flush();
                 run.next = Next::GoOn;
             }
             Told::Send(to) => return Ok(Reply::Letter(run.front(to % 4097).to_vec(heap)?)),

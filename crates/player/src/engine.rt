@@ -2,8 +2,14 @@
 use commands::Kind;
 use pages::told::{Event, Told};
 
-// The kinds of the commands that the house knows: none yet. A command that is not known is refused.
-const KNOWN: [Kind; 0] = [];
+// The kinds of the commands that the house knows. A command that is not known is refused.
+const KNOWN: [Kind; 5] = [
+    Kind::WriteFile,
+    Kind::DropFile,
+    Kind::Status,
+    Kind::ReadFile,
+    Kind::Leave,
+];
 
 // One step of the house: what the world tells is taken in, and one act is told.
 pub fn step(memory: &mut [u64], event: Event<'_>, out: &mut [u8]) -> Told {

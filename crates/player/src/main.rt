@@ -24,8 +24,11 @@ fn print_counts(rt: &HostRuntime, counts: &Counts) -> io::Result<()> {
     let commands = counts.commands;
     let powers = counts.powers;
     let stops = counts.stops;
+    let sweeps = counts.sweeps;
     let disagreed = counts.disagreed;
-    println!(rt; "days {days}, commands {commands}, powers {powers}, stops {stops}")?;
+    println!(rt;
+        "days {days}, commands {commands}, powers {powers}, stops {stops}, sweeps {sweeps}"
+    )?;
     let done = counts.done;
     print!(rt; "done {done}, refused")?;
     for (number, n) in (1..11).zip(counts.refused.iter()) {
@@ -73,9 +76,9 @@ fn print_shown(rt: &HostRuntime, shown: &Shown) -> io::Result<()> {
 fn read_day(rt: &HostRuntime, file: &str) -> anyhow::Result<Day> {
     let text = fs::read_to_string(rt, file)?;
     let day = Day::read(rt.alloc(), text.as_str())?;
-    if day.bad_lines > 0 || day.houses > 16 || day.pages < 64 {
+    if day.bad_lines > 0 || !day.setting.is_fit() {
         return Err(anyhow!(
-            "a line that is none of a day, more than 16 houses or fewer than 64 pages"
+            "a line that is none of a day, more than 16 houses, or fewer than 64 pages or too many"
         ));
     }
     Ok(day)
@@ -104,7 +107,7 @@ fn print_kept(rt: &HostRuntime, plain: &Plain) -> anyhow::Result<()> {
 // A day at the plain houses alone, which know every command: what each shows, and what there is to keep at the end.
 fn play_plain(rt: &HostRuntime, file: &str) -> anyhow::Result<()> {
     let day = read_day(rt, file)?;
-    let mut plain = Plain::new(rt.alloc(), day.houses)?;
+    let mut plain = Plain::new(rt.alloc(), day.setting.houses)?;
     for item in day.items.iter() {
         if let What::Said(text, _) = &item.what {
             println!(rt; "{item}")?;
@@ -168,26 +171,9 @@ fn play_day<F: FnMut(&mut Bench, &Item) -> Result<(), Trouble>>(
     requires { F.IsAlwaysCallable play }
 {
     let day = read_day(rt, file)?;
-    let mut bench = Bench::new(rt.alloc(), day.houses, day.pages)?;
+    let mut bench = Bench::new(rt.alloc(), &day.setting)?;
     let agree = play_items(rt, &mut bench, file, &day, play)?;
-    bench.counts.days = 1;
-    bench.counts.disagreed = u64::from(!agree);
-    Ok(bench.counts)
-}
-
-// How many houses and pages a random day has.
-fn setting(dice: &mut Dice) -> (usize, usize) {
-    let houses = match dice.below(20) {
-        0 => 16,
-        n => 3 + (n % 3) as usize,
-    };
-    let pages = match dice.below(4) {
-        0 => 64,
-        1 => 128,
-        2 => 512,
-        _ => 4096,
-    };
-    (houses, pages)
+    Ok(bench.counted(agree))
 }
 
 // The random day of a seed; each item is shown before it is played.
@@ -199,12 +185,12 @@ fn play_random<F: FnMut(&Item) -> io::Result<()>>(
     requires { F.IsAlwaysCallable show }
 {
     let mut dice = Dice::new(rt.alloc(), seed);
-    let (houses, pages) = setting(&mut dice);
-    let mut bench = Bench::new(rt.alloc(), houses, pages)?;
+    let setting = dice.setting()?;
+    let mut bench = Bench::new(rt.alloc(), &setting)?;
     let whose = format!(in rt.alloc(); "seed {seed}")?;
     let mut agrees = true;
     for i in 0..dice.below(80).saturating_add(20) as usize {
-        let house = dice.below(houses as u64) as usize;
+        let house = dice.below(setting.houses as u64) as usize;
         let stop = dice.stop()?;
         let what = if bench.is_up(house) {
             dice.said(&bench.plain)?
@@ -218,9 +204,7 @@ fn play_random<F: FnMut(&Item) -> io::Result<()>>(
             agrees = agree(rt, whose.as_str(), i, &item, played)?;
         }
     }
-    bench.counts.days = 1;
-    bench.counts.disagreed = u64::from(!agrees);
-    Ok(bench.counts)
+    Ok(bench.counted(agrees))
 }
 
 fn play_many(rt: &HostRuntime, seed: u64, days: u64) -> anyhow::Result<Counts> {
@@ -236,8 +220,8 @@ fn play_many(rt: &HostRuntime, seed: u64, days: u64) -> anyhow::Result<Counts> {
 
 // A random day that is played and written out.
 fn print_random(rt: &HostRuntime, seed: u64) -> anyhow::Result<Counts> {
-    let (houses, pages) = setting(&mut Dice::new(rt.alloc(), seed));
-    println!(rt; "houses {houses}\npages {pages}")?;
+    let setting = Dice::new(rt.alloc(), seed).setting()?;
+    print!(rt; "{setting}")?;
     play_random(rt, seed, |item| println!(rt; "{item}"))
 }
 

@@ -1,7 +1,7 @@
 // Random days from a seed.
 ghost use Rattle.std.specs.Prelude.{◌<◌};
 
-use crate::day::{LONG_LINE, Stop, What};
+use crate::day::{LONG_LINE, Setting, Stop, What};
 use crate::engine::is_known;
 use crate::text::spelled;
 use commands::{Command, Kind};
@@ -46,6 +46,26 @@ impl Dice {
         ensures { 0 < n → result < n }
     {
         if n == 0 { 0 } else { self.next() % n }
+    }
+
+    // How many pages a house has.
+    fn pages(&mut self) -> usize {
+        [64, 128, 512, 4096][self.below(4) as usize]
+    }
+
+    // The houses of a day; in one day of three each has its own number of pages.
+    pub fn setting(&mut self) -> Result<Setting, AllocError> {
+        let houses = match self.below(20) {
+            0 => 16,
+            n => 3 + (n % 3) as usize,
+        };
+        let mut setting = Setting::new(self.heap, houses, self.pages());
+        if self.below(3) == 0 {
+            for c in 0..houses {
+                setting.own_pages.insert(c, self.pages())?;
+            }
+        }
+        Ok(setting)
     }
 
     fn path(&mut self) -> &'static [u8] {
