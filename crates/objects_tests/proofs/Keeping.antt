@@ -6,11 +6,12 @@ use Rattle.pages.specs.Lists.{zeros}
 use Rattle.pages.specs.Machine.{asked}
 use Rattle.pages.specs.declared.machine.Request.TheVariants.{Refuse}
 use Rattle.pages.proofs.ListLaws.{pick_false}
+use Rattle.objects.specs.Cells.{stage_code, stage_in}
 use Rattle.objects.specs.Plan.{plan_end}
 use Rattle.objects.specs.Sweeping.{sweep}
 use Rattle.objects.specs.declared.sweep.Stage.{Stage}
 use Rattle.objects.specs.declared.sweep.Stage.TheVariants.{Marking, Copying, Laying, Closing, Publishing}
-use Rattle.objects_tests.specs.Keeper.{keeper, phase_code, phase_in, stage_code, stage_in, keeper_saves, keeper_resumes, resumed, sweeping, surveying, LoadsSaved, KeeperSweeps, KeeperWalks}
+use Rattle.objects_tests.specs.Keeper.{keeper, phase_code, phase_in, keeper_saves, keeper_resumes, resumed, sweeping, surveying, LoadsSaved, KeeperSweeps, KeeperWalks}
 use Rattle.objects_tests.specs.declared.keeper.Keeper.{Keeper}
 use Rattle.objects_tests.specs.declared.keeper.Phase.{Phase}
 use Rattle.objects_tests.specs.declared.keeper.Phase.TheVariants.{Once, ToSweep, ToSurvey, Sweeping, Surveying}

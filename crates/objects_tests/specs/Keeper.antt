@@ -1,5 +1,5 @@
 -- A client for tests: it makes the one request that is said, or sweeps, or surveys what is live. Assumes nothing: these are definitions.
-use Rattle.std.specs.Prelude.{◌≡◌, ℕ, ◌-◌, ◌*◌, List, [], ◌∷◌, ◌++◌, length, take, drop, ◌==◌, nat_lt, slice_index, slice_set}
+use Rattle.std.specs.Prelude.{◌≡◌, ℕ, ◌-◌, ◌*◌, List, ◌∷◌, ◌++◌, length, take, drop, ◌==◌, nat_lt, slice_index, slice_set}
 use Rattle.pages.specs.Bytes.{from_bytes}
 use Rattle.pages.specs.Lists.{pick, zeros}
 use Rattle.pages.specs.Engine.{Housed, housed}
@@ -7,12 +7,11 @@ use Rattle.pages.specs.Machine.{Asked, Program, program, asked, capped}
 use Rattle.pages.specs.Words.{over}
 use Rattle.pages.specs.declared.machine.Request.{Request}
 use Rattle.pages.specs.declared.machine.Request.TheVariants.{Recall, Look, Object, Lay, Publish, Show, Done, Refuse}
+use Rattle.objects.specs.Cells.{sweep_cells, sweep_in, walk_cells, walk_in}
 use Rattle.objects.specs.Marking.{Walks, begun, key, sought, walk, walked, went_on}
 use Rattle.objects.specs.Plan.{head_at, plan_end}
-use Rattle.objects.specs.Sweeping.{SweepsIn, sweep, sweep_begun, sweep_went_on, swung}
+use Rattle.objects.specs.Sweeping.{SweepsIn, sweep_begun, sweep_went_on, swung}
 use Rattle.objects.specs.declared.mark.Walk.{Walk}
-use Rattle.objects.specs.declared.sweep.Stage.{Stage}
-use Rattle.objects.specs.declared.sweep.Stage.TheVariants.{Marking, Copying, Laying, Closing, Publishing}
 use Rattle.objects.specs.declared.sweep.Sweep.{Sweep}
 use Rattle.objects_tests.specs.declared.keeper.Keeper.{Keeper}
 use Rattle.objects_tests.specs.declared.keeper.Phase.{Phase}
@@ -32,30 +31,6 @@ phase_code Surveying = 4
 
 abbrev pub phase_in : ℕ → Phase
 phase_in c = pick (c == 1) ToSweep (pick (c == 2) ToSurvey (pick (c == 3) Sweeping (pick (c == 4) Surveying Once)))
-
-abbrev pub stage_code : Stage → ℕ
-stage_code Marking = 0
-stage_code Copying = 1
-stage_code Laying = 2
-stage_code Closing = 3
-stage_code Publishing = 4
-
-abbrev pub stage_in : ℕ → Stage
-stage_in c = pick (c == 1) Copying (pick (c == 2) Laying (pick (c == 3) Closing (pick (c == 4) Publishing Marking)))
-
-abbrev pub walk_cells : Walk → List ℕ
-walk_cells w =
-    w.first ∷ w.below ∷ w.weight ∷ w.kind ∷ w.key.a ∷ w.key.b ∷ w.key.c ∷ w.key.d ∷ w.found ∷ []
-
-abbrev pub walk_in : List ℕ → Walk
-walk_in cs =
-    walk (slice_index cs 0) (slice_index cs 1) (slice_index cs 2) (slice_index cs 3) (key (slice_index cs 4) (slice_index cs 5) (slice_index cs 6) (slice_index cs 7)) (slice_index cs 8)
-
-abbrev pub sweep_cells : Sweep → List ℕ
-sweep_cells s = stage_code s.stage ∷ s.at ∷ s.from ∷ s.page ∷ s.waiting ∷ walk_cells s.walk
-
-abbrev pub sweep_in : List ℕ → Sweep
-sweep_in cs = sweep (stage_in (slice_index cs 0)) (walk_in (take 9 (drop 5 cs))) (slice_index cs 1) (slice_index cs 2) (slice_index cs 3) (slice_index cs 4)
 
 abbrev pub keeper_loads : List ℕ → Keeper
 keeper_loads cs = keeper (phase_in (slice_index cs 0)) (sweep_in (take 14 (drop 10 cs))) (walk_in (take 9 (drop 1 cs)))
