@@ -1,7 +1,7 @@
--- The control's steps in memory, and its branches. Assumes nothing.
-use Rattle.std.proofs.Common.{◌≡◌, ℕ, ◌+◌, ◌-◌, ◌*◌, ◌<◌, ◌≤◌, true, false, Bool, ltb, List, [], ◌∷◌, ◌++◌, length, get_or, take, drop, Some, None, Option, sym, refl, ap, ◌∙◌, ap₂, arith, append_assoc, length-drop, length-append}
+-- The control's steps in memory: rows, the path's key, marks, the new head. Assumes nothing.
+use Rattle.std.proofs.Common.{◌≡◌, ℕ, ◌+◌, ◌-◌, ◌<◌, ◌≤◌, true, false, Bool, ltb, List, [], ◌∷◌, ◌++◌, length, get_or, take, drop, Some, None, Option, sym, refl, ap, ◌∙◌, ap₂, arith, append_assoc, length-drop}
 use Rattle.std.proofs.Math.ListN.{set}
-use Rattle.std.proofs.lemmas.List.{get_or-drop, get_or-take, length-take, length-take-le, take_at, take_all, drop_at, drop-drop, drop-take, take-take, take-append-drop, take_more}
+use Rattle.std.proofs.lemmas.List.{get_or-drop, get_or-take, length-take, length-take-le, take_all, drop-drop, drop-take, take-take, take-append-drop, take_more}
 use Rattle.std.proofs.lemmas.Bool.{le-ltb}
 use borrow.Rule.Slice.PartMut.{put_mid}
 use Rattle.pages.specs.Lists.{pick, each, zeros}

@@ -1,6 +1,6 @@
 -- The control's branches: what each test decides. Assumes nothing.
-use Rattle.std.proofs.Common.{◌≡◌, ℕ, ◌+◌, ◌-◌, ◌*◌, ◌/◌, ◌<◌, ◌≤◌, min, Bool, true, false, not, ◌&&◌, eqb, leb, ltb, List, [], ◌∷◌, ◌++◌, length, get_or, take, drop, Some, None, Option, Ok, Err, Result, sym, refl, ap, ◌∙◌, ap₂, arith, length-drop, length-append}
-use Rattle.std.proofs.lemmas.Bool.{true≢false, false≢true, and_from, and_parts, eq-eqb, eqb-true, leb-true, le-ltb, lt-ltb}
+use Rattle.std.proofs.Common.{◌≡◌, ℕ, ◌+◌, ◌-◌, ◌*◌, ◌<◌, ◌≤◌, min, Bool, true, false, not, ◌&&◌, eqb, leb, ltb, List, length, take, drop, Some, None, Option, Bor, Ok, Err, Result, sym, refl, ap, ◌∙◌, ap₂, arith}
+use Rattle.std.proofs.lemmas.Bool.{and_parts, eq-eqb, eqb-true, leb-true, le-ltb, lt-ltb}
 use Rattle.std.proofs.lemmas.List.{length-take}
 use borrow.Rule.Slice.PartMut.{put_mid}
 use Rattle.std.specs.Result.{is_err}
@@ -8,18 +8,20 @@ use Rattle.pages.specs.Lists.{pick}
 use Rattle.pages.specs.Machine.{Asked, asked, buffer_words, capped}
 use Rattle.pages.specs.Words.{over}
 use Rattle.pages.specs.declared.machine.Request.{Request}
-use Rattle.pages.specs.declared.machine.Request.TheVariants.{Object, Refuse}
+use Rattle.pages.specs.declared.machine.Request.TheVariants.{Object, Recall, Refuse}
 use Rattle.pages.proofs.ListLaws.{false_unless, pick_true, pick_false}
-use Rattle.objects.specs.Layouts.{answered, bytes_stand, in_front, words_at, words_for}
+use Rattle.objects.specs.Layouts.{answered, bytes_put, bytes_stand, in_front, words_at, words_for}
 use Rattle.objects.specs.Plan.{plan_end}
 use Rattle.objects.specs.Marking.{begun, walk}
 use Rattle.objects.specs.Sweeping.{sweep_begun, swung}
 use Rattle.objects.specs.Room.{quarter}
 use Rattle.objects.proofs.PlanLaws.{over_before, over_same}
+use Rattle.objects.specs.declared.mark.Key.{Key}
 use Rattle.trees.specs.Row.{has_key, put_key, room_for, take_key}
 use Rattle.trees.specs.Packed.{squeezed, squeeze_answer}
 use Rattle.trees.specs.declared.rows.Refused.{Refused}
 use Rattle.trees.specs.declared.rows.Refused.TheVariants.{Full}
+use Rattle.commands.specs.Command.{write_file}
 use Rattle.commands.specs.Meaning.{meant}
 use Rattle.commands.specs.declared.command.Command.{Command}
 use Rattle.commands.specs.declared.command.Command.TheVariants.{WriteFile, DropFile, Commit, Branch, GoTo, History, ShowFile, Status as StatusSaid, ReadFile, Join, Settle, Leave as LeaveSaid, MoveOnto, Carry, Forget, Tag, Who, Sweep, Fetch}
@@ -29,7 +31,7 @@ use Rattle.house.specs.declared.control.Phase.{Phase}
 use Rattle.house.specs.declared.control.Phase.TheVariants.{LayingFile, LayingTree, Loading}
 use Rattle.house.specs.declared.control.Task.{Task}
 use Rattle.house.specs.declared.control.Task.TheVariants.{Nothing, Write, Drop, Read, Status, Leave}
-use Rattle.house.specs.Control.{again, at_phase, bytes_at, control_resumes, desk_end, emptied, entry_weight, file_in, head_word, kept, laid_from, lay_file, lay_tree, lays, load, loaded, named, path_key, recalled, reference_at, resumed, row_at, row_of, row_words, said_of, squeezed_in, started, survey, surveyed, surveying, survey_roots, sweeping, tight, tree_put, window_of, with_row}
+use Rattle.house.specs.Control.{again, at_phase, bytes_at, control_resumes, desk_end, emptied, entry_weight, file_in, head_word, hearing, kept, laid_from, lay_file, lay_tree, lays, load, loaded, named, path_key, path_put, recalled, reference_at, resumed, row_at, row_of, row_words, said_of, squeezed_in, started, survey, surveyed, surveying, survey_roots, sum_key, sweeping, tight, tree_put, window_of, with_row}
 use Rattle.house.proofs.ControlLaws.{row_written}
 
 -- THE TREE IS LAID, where its row could be stored
@@ -203,9 +205,9 @@ some_tree k m root at e z n =
     ∙ sym (pick_false (eqb (head_word m 2) 0) _ _ (false_unless (eqb (head_word m 2) 0) (λ t. z (e ∙ eqb-true (head_word m 2) 0 t))))
 
 -- it sweeps first, or goes on
-pub sweeps_first : (k : Control) (m : List ℕ) (a b : Bool) (r : Asked Control) → a ≡ lays k.task → b ≡ tight k.pages m → a ≡ true → b ≡ true →
+pub sweep_comes : (k : Control) (m : List ℕ) (a : Bool) (r : Asked Control) → a ≡ (lays k.task && tight k.pages m) → a ≡ true →
     r ≡ swung (sweeping k) (again k) (sweep_begun k.sweep m) → r ≡ recalled k m
-sweeps_first k m a b r e f s t is = is ∙ sym (pick_true (lays k.task && tight k.pages m) _ _ (and_from (lays k.task) (tight k.pages m) (sym e ∙ s) (sym f ∙ t)))
+sweep_comes k m a r e t is = is ∙ sym (pick_true (lays k.task && tight k.pages m) _ _ (sym e ∙ t))
 
 pub goes_on : (k : Control) (m : List ℕ) (a : Bool) (r : Asked Control) → a ≡ (lays k.task && tight k.pages m) → a ≡ false → r ≡ started k m k.task → r ≡ recalled k m
 goes_on k m a r e f is = is ∙ sym (pick_false (lays k.task && tight k.pages m) _ _ (sym e ∙ f))
@@ -214,3 +216,33 @@ goes_on k m a r e f is = is ∙ sym (pick_false (lays k.task && tight k.pages m)
 pub resumes_in : (k : Control) (m : List ℕ) (p : Phase) → desk_end ≤ length m → k.phase ≡ p → resumed k m p ≡ control_resumes k m
 resumes_in k m p h e =
     ap (resumed k m) (sym e) ∙ sym (pick_false (ltb (length m) desk_end) (asked k m (Refuse 2)) (resumed k m k.phase) (le-ltb (length m) desk_end h))
+
+-- WHAT IS SAID: a command that it does not know
+pub not_known : (sum : Sum) (k : Control) (m : List ℕ) (c : Command) → ((p b : Bor (List ℕ)) → c ≡ WriteFile p b → ⊥) → ((p : Bor (List ℕ)) → c ≡ DropFile p → ⊥) →
+    ((p : Bor (List ℕ)) → c ≡ ReadFile p → ⊥) → (c ≡ StatusSaid → ⊥) → (c ≡ LeaveSaid → ⊥) → asked k m (Refuse 2) ≡ said_of sum k m (meant c)
+not_known sum k m (WriteFile p b) w d r s l = absurd (w p b refl)
+not_known sum k m (DropFile p) w d r s l = absurd (d p refl)
+not_known sum k m (Commit s' x) w d r s l = refl
+not_known sum k m (Branch x) w d r s l = refl
+not_known sum k m (GoTo x) w d r s l = refl
+not_known sum k m History w d r s l = refl
+not_known sum k m (ShowFile x y) w d r s l = refl
+not_known sum k m StatusSaid w d r s l = absurd (s refl)
+not_known sum k m (ReadFile p) w d r s l = absurd (r p refl)
+not_known sum k m (Join x) w d r s l = refl
+not_known sum k m (Settle x) w d r s l = refl
+not_known sum k m LeaveSaid w d r s l = absurd (l refl)
+not_known sum k m (MoveOnto x) w d r s l = refl
+not_known sum k m (Carry x) w d r s l = refl
+not_known sum k m (Forget x) w d r s l = refl
+not_known sum k m (Tag x) w d r s l = refl
+not_known sum k m (Who x) w d r s l = refl
+not_known sum k m Sweep w d r s l = refl
+not_known sum k m (Fetch x) w d r s l = refl
+
+-- a file that is said
+pub write_heard : (sum : Sum) (k k₁ : Control) (m m₁ m₂ p b : List ℕ) (s : Key) (q : Request) → m₁ ≡ path_put p m → m₂ ≡ bytes_put bytes_at b m₁ → s ≡ sum_key (sum b) →
+    k₁ ≡ hearing Write (length b) s k → q ≡ Recall → asked k₁ m₂ q ≡ said_of sum k m (write_file p b)
+write_heard sum k k₁ m m₁ m₂ p b s q e f g h r =
+    ap₂ (λ x y. asked x m₂ y) (h ∙ ap (λ x. hearing Write (length b) x k) g) r
+    ∙ ap (λ x. asked (hearing Write (length b) (sum_key (sum b)) k) x Recall) (f ∙ ap (bytes_put bytes_at b) e)

@@ -2,16 +2,16 @@
 -- anything and the ring is tight it first sweeps, and begins anew; it loads the tree in work, does its part, surveys where what is to be kept may grow, lays, and
 -- publishes the new head. Nothing is kept in memory from one command to the next but the house's number, the number of houses and of pages.
 -- Assumes nothing: these are definitions.
-use Rattle.std.specs.Prelude.{ℕ, ◌+◌, ◌-◌, ◌*◌, ◌/◌, min, Bool, true, false, ◌&&◌, List, [], ◌∷◌, ◌++◌, length, take, drop, Some, None, Option, ◌==◌, nat_le, nat_lt, slice_index}
-use Rattle.pages.specs.Lists.{pick, none_of, zeros}
+use Rattle.std.specs.Prelude.{ℕ, ◌+◌, ◌-◌, ◌*◌, ◌/◌, min, Bool, true, false, ◌&&◌, List, [], ◌∷◌, ◌++◌, length, take, drop, Some, None, Option, ◌==◌, nat_lt, slice_index}
+use Rattle.pages.specs.Lists.{pick, zeros}
 use Rattle.pages.specs.Words.{over, words}
 use Rattle.pages.specs.Machine.{Asked, asked, Program, program, capped, buffer_words}
 use Rattle.pages.specs.Engine.{Housed, housed}
 use Rattle.pages.specs.declared.machine.Request.TheVariants.{Recall, Object, Lay, Publish, Show, Done, Refuse}
 use Rattle.objects.specs.Plan.{head_at, map_at}
-use Rattle.objects.specs.Layouts.{words_for, bytes_put, bytes_stand, file_object, file_read, in_front, words_at}
+use Rattle.objects.specs.Layouts.{words_for, bytes_put, bytes_stand, file_object, file_read, words_at}
 use Rattle.objects.specs.Marking.{begun, key, key_words, sought, walk, walked, went_on}
-use Rattle.objects.specs.Sweeping.{sweep, sweep_begun, sweep_went_on, swung}
+use Rattle.objects.specs.Sweeping.{sweep_begun, sweep_went_on, swung}
 use Rattle.objects.specs.Cells.{sweep_cells, sweep_in, walk_cells, walk_in}
 use Rattle.objects.specs.Room.{quarter, reserve}
 use Rattle.objects.specs.declared.mark.Key.{Key}
@@ -165,10 +165,12 @@ control_loads cs =
     (key (slice_index cs 10) (slice_index cs 11) (slice_index cs 12) (slice_index cs 13)) (slice_index cs 6) (slice_index cs 7)
     (cursor (slice_index cs 8) (slice_index cs 9)) (sweep_in (take 14 (drop 14 cs))) (walk_in (take 9 (drop 28 cs)))
 
+abbrev pub own_cells : Control → List ℕ
+own_cells k =
+    k.house ∷ k.houses ∷ k.pages ∷ task_code k.task ∷ phase_code k.phase ∷ k.bytes ∷ k.page ∷ k.root ∷ k.cursor.old ∷ k.cursor.new ∷ k.sum.a ∷ k.sum.b ∷ k.sum.c ∷ k.sum.d ∷ []
+
 unfoldable pub control_saves : Control → List ℕ
-control_saves k =
-    k.house ∷ k.houses ∷ k.pages ∷ task_code k.task ∷ phase_code k.phase ∷ k.bytes ∷ k.page ∷ k.root ∷ k.cursor.old ∷ k.cursor.new
-    ∷ k.sum.a ∷ k.sum.b ∷ k.sum.c ∷ k.sum.d ∷ (sweep_cells k.sweep ++ (walk_cells k.walk ++ zeros 83))
+control_saves k = own_cells k ++ (sweep_cells k.sweep ++ (walk_cells k.walk ++ zeros 83))
 
 -- WHAT IS SAID: the path's key and the bytes are put aside, the sum of the bytes is taken, and the head is asked for
 abbrev pub sum_key : List ℕ → Key

@@ -1,8 +1,8 @@
 // The house as a client of the tape, for the commands that keep sheets in work.
-ghost use Rattle.std.specs.Prelude.{◌≡◌, ◌+◌, ◌<◌, ◌*◌, ◌≤◌, ◌++◌, ℕ, List, length, take, drop};
+ghost use Rattle.std.specs.Prelude.{◌≡◌, ◌+◌, ◌<◌, ◌*◌, ◌≤◌, ◌&&◌, ◌++◌, ℕ, List, length, take, drop};
 ghost use Rattle.commands.specs.Meaning.{meaning};
 ghost use Rattle.commands.specs.Refusal.{number_of};
-ghost use Rattle.house.specs.Control.{again, compare, control_client, desk_end, emptied, entry_weight, file_came, head_word, hearing, heard_of, kept as kept_of, laid_from, lay_file, lay_tree, lays, load, loaded, named, opened, path_key, path_put, phase_code, phase_in, publish, recalled, reference_at, row_of, row_words, squeezed_in, started, sum_key, survey, surveyed, surveying, survey_roots, sweeping, task_code, task_in, tight, with_row};
+ghost use Rattle.house.specs.Control.{again, compare, control_client, desk_end, emptied, entry_weight, file_came, head_word, hearing, heard_of, kept as kept_of, laid_from, lay_file, lay_tree, lays, load, loaded, named, opened, own_cells, path_key, path_put, phase_code, phase_in, publish, recalled, reference_at, row_of, row_words, squeezed_in, started, sum_key, survey, surveyed, surveying, survey_roots, sweeping, task_code, task_in, tight, with_row};
 ghost use Rattle.house.specs.Entry.{own_sum};
 ghost use Rattle.objects.specs.Layouts.{file_read};
 ghost use Rattle.objects.specs.Marking.{asked_on, begun, walked, went_on, with_references};
@@ -203,7 +203,12 @@ fn name_file(memory: &mut [u64], reference: u64)
 {
     let key = path_key(memory);
     let weight = entry_weight(memory);
-    let _ = put_key(&mut memory[desk::ROW..desk::ROW_END], &key, weight, reference);
+    let _ = put_key(
+        &mut memory[desk::ROW..desk::ROW_END],
+        &key,
+        weight,
+        reference,
+    );
 }
 
 // An empty tree's row.
@@ -288,6 +293,29 @@ fn refuse(why: Refusal) -> Request
 }
 
 impl Control {
+    // The cells that hold it, but for its sweep and its walk.
+    fn own_cells(&self) -> [u64; 14]
+        ensures { result ≡ own_cells self.now }
+    {
+        let Key { a, b, c, d } = self.sum;
+        [
+            self.house,
+            self.houses,
+            self.pages,
+            self.task.code(),
+            self.phase.code(),
+            self.bytes,
+            self.page,
+            self.root,
+            self.cursor.old as u64,
+            self.cursor.new as u64,
+            a,
+            b,
+            c,
+            d,
+        ]
+    }
+
     // A command's task begins: the head is asked for.
     fn begin(&mut self, task: Task, bytes: u64, sum: Key) -> Request
         ensures state { self.new ≡ hearing task bytes sum self.old }
@@ -577,8 +605,18 @@ impl Control {
         ensures { result ≡ tight self.now.pages memory.now }
     {
         let window = head_word(memory, 1).saturating_sub(head_word(memory, 0));
-        let wanted = room::reserve(self.pages).saturating_mul(2).saturating_add(window);
+        let wanted = room::reserve(self.pages)
+            .saturating_mul(2)
+            .saturating_add(window);
         self.pages.saturating_sub(1) < wanted
+    }
+
+    // Whether a sweep comes before the task.
+    fn sweeps_first(&self, memory: &[u64]) -> bool
+        requires { desk_end ≤ length memory.now }
+        ensures { result ≡ (lays self.now.task && tight self.now.pages memory.now) }
+    {
+        self.task.lays() && self.is_tight(memory)
     }
 
     // The head is there.
@@ -587,7 +625,7 @@ impl Control {
         ensures { asked self.new memory.new result ≡ recalled self.old (over 41152 (take 32 memory.old) memory.old) }
     {
         copy_words(memory, 0, plan::HEAD, 32);
-        if self.task.lays() && self.is_tight(memory) {
+        if self.sweeps_first(memory) {
             let request = self.sweep.begin(memory);
             return self.swept(request);
         }
@@ -621,8 +659,23 @@ impl Client for Control {
     ghost housed = { control_client own_sum };
 
     fn load(cells: &[u64; 120]) -> Control {
-        let [house, houses, pages, task, phase, bytes, page, root, old, new, a, b, c, d, ..] =
-            *cells;
+        let [
+            house,
+            houses,
+            pages,
+            task,
+            phase,
+            bytes,
+            page,
+            root,
+            old,
+            new,
+            a,
+            b,
+            c,
+            d,
+            ..
+        ] = *cells;
         let mut sweep = [0; 14];
         sweep.copy_from_slice(&cells[14..28]);
         let mut walk = [0; 9];
@@ -648,23 +701,7 @@ impl Client for Control {
 
     fn save(&self) -> [u64; 120] {
         let mut cells = [0; 120];
-        let Key { a, b, c, d } = self.sum;
-        cells[..14].copy_from_slice(&[
-            self.house,
-            self.houses,
-            self.pages,
-            self.task.code(),
-            self.phase.code(),
-            self.bytes,
-            self.page,
-            self.root,
-            self.cursor.old as u64,
-            self.cursor.new as u64,
-            a,
-            b,
-            c,
-            d,
-        ]);
+        cells[..14].copy_from_slice(&self.own_cells());
         cells[14..28].copy_from_slice(&sweep_cells(&self.sweep));
         cells[28..37].copy_from_slice(&walk_cells(&self.walk));
         cells

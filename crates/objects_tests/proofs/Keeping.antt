@@ -6,9 +6,11 @@ use Rattle.pages.specs.Lists.{zeros}
 use Rattle.pages.specs.Machine.{asked}
 use Rattle.pages.specs.declared.machine.Request.TheVariants.{Refuse}
 use Rattle.pages.proofs.ListLaws.{pick_false}
+use Rattle.objects.specs.Cells.{stage_code, stage_in}
 use Rattle.objects.specs.Plan.{plan_end}
 use Rattle.objects.specs.Sweeping.{sweep}
-use Rattle.objects.proofs.SmallLaws.{stage_kept}
+use Rattle.objects.specs.declared.sweep.Stage.{Stage}
+use Rattle.objects.specs.declared.sweep.Stage.TheVariants.{Marking, Copying, Laying, Closing, Publishing}
 use Rattle.objects_tests.specs.Keeper.{keeper, phase_code, phase_in, keeper_saves, keeper_resumes, resumed, sweeping, surveying, LoadsSaved, KeeperSweeps, KeeperWalks}
 use Rattle.objects_tests.specs.declared.keeper.Keeper.{Keeper}
 use Rattle.objects_tests.specs.declared.keeper.Phase.{Phase}
@@ -20,6 +22,13 @@ phase_kept ToSweep = refl
 phase_kept ToSurvey = refl
 phase_kept Sweeping = refl
 phase_kept Surveying = refl
+
+stage_kept : (g : Stage) → stage_in (stage_code g) ≡ g
+stage_kept Marking = refl
+stage_kept Copying = refl
+stage_kept Laying = refl
+stage_kept Closing = refl
+stage_kept Publishing = refl
 
 pub loads_saved : LoadsSaved
 unfolding keeper_saves zeros

@@ -8,8 +8,9 @@ ghost use Rattle.objects.specs.Plan.{head_at, plan_end};
 ghost use Rattle.objects.specs.Sweeping.{sweep_begun, sweep_went_on, swung};
 ghost use Rattle.objects_tests.specs.Keeper.{keeper_client, KeeperSweeps, KeeperWalks, LoadsSaved, phase_code, phase_in, phase_said, request_said, said as said_at, surveyed, surveying, sweeping, swept, walk_said, window_in};
 
+use objects::cells::{sweep_cells, sweep_in, walk_cells, walk_in};
 use objects::mark::{Key, Walk};
-use objects::sweep::{Stage, Sweep};
+use objects::sweep::Sweep;
 use objects::{mark, plan};
 use pages::bytes::number;
 use pages::machine::{Client, Request};
@@ -53,74 +54,6 @@ pub struct Keeper {
     pub phase: Phase,
     pub sweep: Sweep,
     pub walk: Walk,
-}
-
-fn stage_code(stage: Stage) -> u64
-    ensures { result ≡ stage_code stage }
-{
-    stage as u64
-}
-
-// As it stands: a function, since a crate can't write `From` for a type of another one.
-fn stage_in(code: u64) -> Stage
-    ensures { result ≡ stage_in code }
-{
-    match code {
-        1 => Stage::Copying,
-        2 => Stage::Laying,
-        3 => Stage::Closing,
-        4 => Stage::Publishing,
-        _ => Stage::Marking,
-    }
-}
-
-fn walk_in(cells: &[u64]) -> Walk
-    requires { 9 ≤ length cells.now }
-    ensures { result ≡ walk_in cells.now }
-{
-    Walk {
-        first: cells[0],
-        below: cells[1],
-        weight: cells[2],
-        kind: cells[3],
-        key: Key {
-            a: cells[4],
-            b: cells[5],
-            c: cells[6],
-            d: cells[7],
-        },
-        found: cells[8],
-    }
-}
-
-fn walk_cells(walk: &Walk) -> [u64; 9]
-    ensures { result ≡ walk_cells walk.now }
-{
-    [
-        walk.first,
-        walk.below,
-        walk.weight,
-        walk.kind,
-        walk.key.a,
-        walk.key.b,
-        walk.key.c,
-        walk.key.d,
-        walk.found,
-    ]
-}
-
-fn sweep_in(cells: &[u64]) -> Sweep
-    requires { 14 ≤ length cells.now }
-    ensures { result ≡ sweep_in cells.now }
-{
-    Sweep {
-        stage: stage_in(cells[0]),
-        walk: walk_in(&cells[5..14]),
-        at: cells[1],
-        from: cells[2],
-        page: cells[3],
-        waiting: cells[4],
-    }
 }
 
 // The number that stands at a place of a text.
@@ -255,10 +188,14 @@ impl Client for Keeper {
     ghost housed = { keeper_client };
 
     fn load(cells: &[u64; 120]) -> Keeper {
+        let mut walk = [0; 9];
+        walk.copy_from_slice(&cells[1..10]);
+        let mut sweep = [0; 14];
+        sweep.copy_from_slice(&cells[10..24]);
         Keeper {
             phase: Phase::from(cells[0]),
-            sweep: sweep_in(&cells[10..24]),
-            walk: walk_in(&cells[1..10]),
+            sweep: sweep_in(&sweep),
+            walk: walk_in(&walk),
         }
     }
 
@@ -266,12 +203,7 @@ impl Client for Keeper {
         let mut cells = [0; 120];
         cells[0] = self.phase.code();
         cells[1..10].copy_from_slice(&walk_cells(&self.walk));
-        cells[10] = stage_code(self.sweep.stage);
-        cells[11] = self.sweep.at;
-        cells[12] = self.sweep.from;
-        cells[13] = self.sweep.page;
-        cells[14] = self.sweep.waiting;
-        cells[15..24].copy_from_slice(&walk_cells(&self.sweep.walk));
+        cells[10..24].copy_from_slice(&sweep_cells(&self.sweep));
         cells
     }
 

@@ -1,4 +1,4 @@
-use Rattle.std.proofs.Common.{◌≡◌, ◌≤◌, length, take, drop, ap₂, ◌∙◌, arith}
+use Rattle.std.proofs.Common.{◌≤◌, length, take, drop, ap₂, ◌∙◌, arith}
 use Rattle.objects.specs.Marking.{begun}
 use Rattle.house.proofs.ControlLaws.{kept_marked}
 use Rattle.house.proofs.control.mark_kept.Goals as goal

@@ -1,4 +1,4 @@
-use Rattle.std.proofs.Common.{ap, ap₂, ◌∙◌}
+use Rattle.std.proofs.Common.{ap₂, ◌∙◌}
 use Rattle.trees.specs.Row.{put_key}
 use Rattle.house.specs.Control.{row_of}
 use Rattle.house.proofs.ControlLaws.{row_written}

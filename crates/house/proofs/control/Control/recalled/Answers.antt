@@ -1,9 +1,17 @@
 use Rattle.std.proofs.Common.{ap, ◌∙◌}
-use Rattle.house.proofs.ControlSteps.{sweeps_first, goes_on}
+use Rattle.objects.specs.Sweeping.{swung}
+use Rattle.house.specs.Control.{again, recalled, sweeping}
+use Rattle.house.proofs.ControlSteps.{sweep_comes, goes_on}
 use Rattle.house.proofs.control.Control.recalled.Goals as goal
 
-pub returns-then-is_tight : goal.returns-then-is_tight
-returns-then-is_tight c = let a = c.swept.ensures in let b = c.copy_words.ensures in ?
+pub returns-then-sweeps_first : goal.returns-then-sweeps_first
+returns-then-sweeps_first c =
+    let k = c.args.self.now in
+    let m = c.copy_words.new.memory in
+    sweep_comes k m c.sweeps_first.result _ c.sweeps_first.ensures c.if-sweeps_first.true
+    (c.swept.ensures c.begin-request.new.memory ∙ ap (swung (sweeping k) (again k)) c.begin-request.ensures) ∙ ap (recalled k) c.copy_words.ensures
 
 pub returns : goal.returns
-returns c = let a = c.start.ensures in ?
+returns c =
+    let k = c.args.self.now in
+    goes_on k c.copy_words.new.memory c.sweeps_first.result _ c.sweeps_first.ensures c.if-sweeps_first.false c.start.ensures ∙ ap (recalled k) c.copy_words.ensures
