@@ -1,5 +1,5 @@
 -- Each command of the house that keeps sheets in work, on its tape: what it shows, how it ends, and what the tape stands for then. Assumes nothing.
-use Rattle.std.proofs.Common.{◌≡◌, ℕ, zero, suc, ◌+◌, ◌-◌, ◌*◌, ◌/◌, ◌<◌, ◌≤◌, min, Bool, true, false, not, ◌&&◌, eqb, ltb, leb, ◌⊎◌, List, [], ◌∷◌, ◌++◌, length, get_or, take, drop, Some, None, Option, Ok, Err, Result, sym, refl, ap, ◌∙◌, subst, subst₂, ap₂, inl, inr, ⊎_elim, arith, append-nil, length-append, length-drop}
+use Rattle.std.proofs.Common.{◌≡◌, ℕ, zero, suc, ◌+◌, ◌-◌, ◌*◌, ◌/◌, ◌<◌, ◌≤◌, min, Bool, true, false, not, ◌&&◌, eqb, ltb, leb, ◌⊎◌, List, [], ◌∷◌, ◌++◌, length, get_or, take, drop, Some, None, Option, Ok, Err, Result, sym, refl, ap, ◌∙◌, subst, subst₂, ap₂, inl, inr, ⊎_elim, arith, append-nil, length-append}
 use Rattle.std.proofs.lemmas.Bool.{false≢true, eqb-true, eqb-false, eq-eqb, ne_eqb, le-ltb, lt-ltb, ltb-true, ltb-false, le-leb, lt-leb, leb-true, and_parts}
 use Rattle.std.proofs.lemmas.List.{take_all, get_or-take, get_or-drop, drop-drop}
 use Rattle.pages.specs.Lists.{pick, or, every, each, flat, has, same, none_of, zeros, added_up, distinct}
@@ -11,16 +11,16 @@ use Rattle.pages.specs.Crash.{Rows}
 use Rattle.pages.specs.Engine.{bulk_cells}
 use Rattle.pages.specs.Machine.{Asked, asked, capped}
 use Rattle.pages.specs.Tape.{first_page, last_page, published, Window, Does, finishes}
-use Rattle.pages.specs.declared.machine.Request.TheVariants.{Recall, Done, Refuse}
+use Rattle.pages.specs.declared.machine.Request.TheVariants.{Recall, Refuse}
 use Rattle.pages.proofs.ListLaws.{pick_true, pick_false, In, in_right, in_flat, every_in, same_test, same_true, same_from, pick_both, or_cases, or_left, length_each, same_tells, added_up_within, once_distinct, distinct_in, in_distinct}
 use Rattle.objects.specs.Heap.{Live, root, named, Heap, Lives, has_key as key_there, weights, Placed, units_at}
 use Rattle.objects.specs.Plan.{head_at}
-use Rattle.objects.specs.Marking.{key_words, Marked, Sought}
+use Rattle.objects.specs.Marking.{key_words, Marked}
 use Rattle.objects.specs.declared.mark.Walk.{Walk}
 use Rattle.objects.proofs.GrowLaws.{heap_part}
 use Rattle.objects.specs.Layouts.{words_for, packed_bytes, file_object, bytes_put}
 use Rattle.objects.proofs.LayoutLaws.{put_all}
-use Rattle.objects.specs.Room.{quarter, reserve, RingHasRoom}
+use Rattle.objects.specs.Room.{quarter, reserve}
 use Rattle.objects.specs.Sweeping.{roots_of, Swept}
 use Rattle.objects.specs.declared.sweep.Sweep.{Sweep}
 use Rattle.objects.proofs.PartLaws.{parts_stay}
@@ -40,7 +40,7 @@ use Rattle.trees.proofs.BackAgain.{last_word}
 use Rattle.trees.specs.RowOf.{proper, weight_of, RowOf}
 use Rattle.trees.specs.RowPromises.{FindsRight, PutsRight, TakesRight, DiffersRight, EmptyRight, Apart, listed}
 use Rattle.trees.proofs.RowOfLaws.{empty_right, finds_right, puts_right, takes_right, weight_without}
-use Rattle.trees.proofs.RowParts.{find_references, row_stands, length_put_key, length_take_key, put_references, take_references}
+use Rattle.trees.proofs.RowParts.{find_references, row_stands, length_take_key, put_references, take_references}
 use Rattle.history.specs.Book.{Book, Sum, closed, added, clear, all_files}
 use Rattle.commands.specs.Command.{Command, spelled, fits, a_text, write_file, leave, drop_file, read_file, status}
 use Rattle.commands.specs.Parse.{parsed}
@@ -50,8 +50,8 @@ use Rattle.house.proofs.TurnLaws.{clone_at_same}
 use Rattle.house.specs.Promise.{told_apart, StillApart, Said, Allowed, KnownAllowed}
 use Rattle.house.specs.Simulation.{Setting}
 use Rattle.house.specs.OnTape.{StopStands, EndStands, Answered}
-use Rattle.house.specs.Control.{desk_end, row_of, path_at, bytes_at as bytes_place, head_word, at_phase, sweeping, again, controlling, control_hears, control_client, sheets, said_of, heard_of, hearing, sum_key, named as named_row, survey, surveyed, surveying, kept, lay_file, laying, no_sum, load, loaded, compare, comparing, cursor, emptied, old_row_at, old_row_of, row_words, opened, publish, pages_of, lay_tree, with_row, entry_weight, path_put, path_key, recalled, started, lays, tight}
-use Rattle.house.specs.Shelf.{bytes_at, FileAt, sheets_weight, Shelf, Stands, Simple, Remembers, working, work_root, files_named}
+use Rattle.house.specs.Control.{desk_end, row_of, path_at, bytes_at as bytes_place, head_word, at_phase, sweeping, controlling, control_hears, control_client, sheets, said_of, heard_of, hearing, sum_key, named as named_row, surveyed, surveying, kept, lay_file, laying, no_sum, load, loaded, compare, comparing, cursor, emptied, old_row_at, old_row_of, row_words, opened, publish, pages_of, lay_tree, with_row, entry_weight, path_put, path_key, recalled, started, lays, tight}
+use Rattle.house.specs.Shelf.{bytes_at, FileAt, sheets_weight, Shelf, Stands, Remembers, working, work_root, files_named}
 use Rattle.house.specs.declared.control.Control.{Control}
 use Rattle.house.specs.declared.control.Phase.{Phase}
 use Rattle.house.specs.declared.control.Phase.TheVariants.{Recalling, LayingFile}
@@ -95,7 +95,7 @@ bytes_aside p b x short aside = (
     key = ap (λ y. take 9 (drop path_at y)) (sym is) ∙ parts_stay.beside bytes_place (packed_bytes b) x path_at 9 (omega (arith, fits)) (inl (omega arith)) ∙ aside.key;
   },
   ap (λ y. take (words_for (length b)) (drop 9 (drop path_at y))) (sym is) ∙ ap (take (words_for (length b))) (drop-drop 9 path_at (over bytes_place (packed_bytes b) x))
-  ∙ ap (λ i. take i (drop bytes_place (over bytes_place (packed_bytes b) x))) (sym packed_long) ∙ parts_stay.here bytes_place (packed_bytes b) x (omega (arith, fits)),
+      ∙ ap (λ i. take i (drop bytes_place (over bytes_place (packed_bytes b) x))) (sym packed_long) ∙ parts_stay.here bytes_place (packed_bytes b) x (omega (arith, fits)),
 )
   where
     packed_long : length (packed_bytes b) ≡ words_for (length b)
@@ -932,8 +932,12 @@ module _ (s : Setting) (n : ℕ) (size : suc n ≡ s.pages) (low : 64 ≤ s.page
                 after = w;
                 allowed =
                     λ ls up.
-                    inl (write_file p b, (sp, ft), ap (λ (q : Command → Bool). q (write_file p b)) known_is,
-                    inr (inl (refl, refl, refl, ap (λ (x : Turn). x.reply) turned_done, grows, more)));
+                    inl (
+                      write_file p b,
+                      (sp, ft),
+                      ap (λ (q : Command → Bool). q (write_file p b)) known_is,
+                      inr (inl (refl, refl, refl, ap (λ (x : Turn). x.reply) turned_done, grows, more)),
+                    );
                 does =
                     writes_as (Stop w []) (End w [] 8) (stops_before w [])
                     (λ k₁ ws₁ m₁ h₁ t₁ r spot₁ desk row names room.

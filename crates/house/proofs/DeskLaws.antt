@@ -1,16 +1,15 @@
 -- What lies in a house's memory while it serves a command, and what of it stays: the head, the row of the tree in work, and what was said. Assumes nothing.
-use Rattle.std.proofs.Common.{◌≡◌, ℕ, ◌+◌, ◌-◌, ◌*◌, ◌<◌, ◌≤◌, List, ◌++◌, length, get_or, take, drop, sym, refl, ap, ◌∙◌, inl, inr, arith, length-drop, length-take}
+use Rattle.std.proofs.Common.{◌≡◌, ℕ, ◌+◌, ◌-◌, ◌<◌, ◌≤◌, List, ◌++◌, length, get_or, take, drop, sym, ap, ◌∙◌, inl, inr, arith, length-drop, length-take}
 use Rattle.std.proofs.lemmas.List.{ext_get_or, get_or-take, get_or-drop, drop_at, drop-take, length-take-le, drop-drop}
 use lib.Seq.{take-append-add}
 use Rattle.pages.specs.Engine.{bulk_cells}
-use Rattle.pages.specs.Machine.{buffer_words}
 use Rattle.pages.specs.Words.{over}
 use Rattle.pages.proofs.WordLaws.{length_over}
-use Rattle.objects.specs.Plan.{head_at, map_at, counts_at, plan_end}
+use Rattle.objects.specs.Plan.{head_at, map_at, counts_at}
 use Rattle.objects.specs.Marking.{Keeps}
 use Rattle.objects.proofs.PartLaws.{parts_stay}
 use Rattle.objects.proofs.PlanLaws.{over_drop}
-use Rattle.house.specs.Control.{row_at, row_words, path_at, old_row_at, row_of, with_row, path_key}
+use Rattle.house.specs.Control.{row_at, row_words, path_at, row_of, with_row, path_key}
 
 -- PARTS of two memories that are alike word by word
 pub part_alike : (a n : ℕ) (x y : List ℕ) → length x ≡ length y → ((i : ℕ) → a ≤ i → i < a + n → get_or x i 0 ≡ get_or y i 0) →

@@ -1,16 +1,16 @@
 -- The house that keeps sheets in work keeps the whole promise. Assumes nothing.
-use Rattle.std.proofs.Common.{◌≡◌, ◌≢◌, ℕ, zero, suc, ◌+◌, ◌-◌, ◌*◌, ◌<◌, ◌≤◌, Bool, true, false, ◌&&◌, ltb, eqb, ◌⊎◌, List, [], ◌∷◌, length, Some, None, Option, sym, refl, ap, ◌∙◌, subst, inl, inr, ⊎_elim, arith}
+use Rattle.std.proofs.Common.{◌≡◌, ◌≢◌, ℕ, zero, suc, ◌+◌, ◌-◌, ◌*◌, ◌<◌, ◌≤◌, Bool, true, false, ltb, eqb, ◌⊎◌, List, [], ◌∷◌, length, Some, None, Option, sym, refl, ap, ◌∙◌, subst, inl, inr, arith}
 use Rattle.std.proofs.lemmas.Bool.{false≢true, and_parts, le-ltb}
-use Rattle.pages.specs.Lists.{pick, every, zeros, so_many, none_of}
+use Rattle.pages.specs.Lists.{pick, every, zeros, so_many}
 use Rattle.pages.specs.Bytes.{all_bytes}
 use Rattle.pages.specs.Device.{blank}
 use Rattle.pages.specs.Engine.{engine, bulk_cells}
 use Rattle.pages.proofs.WordLaws.{length_zeros}
 use Rattle.house.specs.Entry.{own}
-use Rattle.pages.specs.Machine.{Asked, asked, capped}
+use Rattle.pages.specs.Machine.{Asked, asked}
 use Rattle.pages.specs.Tape.{last_page, published, Window, Does, finishes, Tied}
 use Rattle.pages.specs.declared.machine.Request.TheVariants.{Refuse}
-use Rattle.pages.proofs.ListLaws.{pick_both, pick_true, pick_false}
+use Rattle.pages.proofs.ListLaws.{pick_false}
 use Rattle.pages.proofs.EngineLaws.{keeps_length, keeps_small}
 use Rattle.pages.proofs.TapeLaws.{tied_new}
 use Rattle.objects.specs.declared.sweep.Stage.TheVariants.{Marking}
@@ -21,21 +21,21 @@ use Rattle.history.specs.Book.{Sum}
 use Rattle.commands.specs.Command.{Command, write_file, drop_file, commit, branch, go_to, history, show_file, status, read_file, join, settle, leave, move_onto, carry, forget, tag, who, sweep as sweep_command, fetch, spelled, fits, a_name, a_text}
 use Rattle.commands.specs.Parse.{parsed, Answers}
 use Rattle.commands.proofs.ParseLaws.{answered}
-use Rattle.house.specs.House.{Plain, Clone, Turn, turn, clone_at, set_clone, empty_clone, with_work, no, yes_with}
+use Rattle.house.specs.House.{Plain, Clone, Turn, turn, clone_at, set_clone, empty_clone, no, yes_with}
 use Rattle.house.specs.Facts.{Fine, FineTree, StaysFine}
 use Rattle.trees.specs.RowOf.{proper}
 use Rattle.std.proofs.lemmas.List.{take_all}
 use Rattle.house.specs.Laws.{Apart}
-use Rattle.house.specs.Promise.{Never, Said, StillApart, Allowed, Steady, Whole}
-use Rattle.house.specs.Simulation.{Setting, Turned, turned, at_first, Simulated}
+use Rattle.house.specs.Promise.{Said, StillApart, Allowed, Steady, Whole}
+use Rattle.house.specs.Simulation.{Setting, Turned, Simulated}
 use Rattle.house.specs.OnTape.{Holding, StopStands, EndStands, Answered, Kept}
-use Rattle.house.specs.Control.{control, control_client, controlling, control_hears, control_saves, cursor, desk_end, heard_of, said_of, sheets, no_sum}
-use Rattle.house.specs.Shelf.{Shelf, Stands, Simple, Remembers, sheets_weight, working}
+use Rattle.house.specs.Control.{control, control_client, controlling, control_saves, cursor, desk_end, heard_of, said_of, sheets, no_sum}
+use Rattle.house.specs.Shelf.{Stands, Simple, Remembers, sheets_weight, working}
 use Rattle.house.specs.declared.control.Control.{Control}
 use Rattle.house.specs.declared.control.Task.TheVariants.{Nothing}
 use Rattle.house.specs.declared.control.Phase.TheVariants.{Resting}
 use Rattle.house.proofs.FineLaws.{stays_fine, all_empty}
-use Rattle.house.proofs.TurnLaws.{houses_apart, clone_at_same, clone_at_either}
+use Rattle.house.proofs.TurnLaws.{houses_apart, clone_at_either}
 use Rattle.house.proofs.Simulation.{simulated, length_so_many}
 use Rattle.house.proofs.OnTape.{obligations}
 use Rattle.house.proofs.ControlBounds.{lawful}

@@ -1,29 +1,29 @@
 -- How the house that keeps sheets in work goes on its tape, phase by phase, whatever is asked of stops and of the end. Assumes nothing.
-use Rattle.std.proofs.Common.{◌≡◌, ℕ, zero, suc, ◌+◌, ◌-◌, ◌*◌, ◌/◌, ◌<◌, ◌≤◌, min, max, Bool, true, false, ◌&&◌, eqb, ltb, leb, ◌⊎◌, List, [], ◌∷◌, ◌++◌, length, get_or, take, drop, Some, None, Option, sym, refl, ap, ◌∙◌, subst, subst₂, ap₂, inl, inr, arith, append-nil, length-append, length-drop, length-take}
-use Rattle.std.proofs.lemmas.List.{take_at, take_all, length-take-le, take-append-le, take-take, take-append-drop, drop-append-le, drop-drop, get_or-drop, get_or_append_left, append_assoc}
-use Rattle.std.proofs.lemmas.Bool.{le-ltb, lt-ltb, eq-eqb, ne_eqb, eqb-true, ltb-true, le-leb, leb-true, and_parts, and_from}
+use Rattle.std.proofs.Common.{◌≡◌, ℕ, zero, suc, ◌+◌, ◌-◌, ◌*◌, ◌/◌, ◌<◌, ◌≤◌, min, true, false, ◌&&◌, eqb, ltb, leb, List, [], ◌∷◌, ◌++◌, length, get_or, take, drop, Some, None, Option, sym, refl, ap, ◌∙◌, subst, subst₂, ap₂, inl, inr, arith, append-nil, length-append, length-drop, length-take}
+use Rattle.std.proofs.lemmas.List.{take_at, length-take-le, take-append-le, take-take, take-append-drop, drop-append-le, drop-drop, get_or-drop, get_or_append_left, append_assoc}
+use Rattle.std.proofs.lemmas.Bool.{le-ltb, eq-eqb, ne_eqb, ltb-true, le-leb, leb-true, and_parts, and_from}
 use lib.Seq.{take-append-add}
-use Rattle.pages.specs.Lists.{pick, each, has, zeros, added_up}
+use Rattle.pages.specs.Lists.{each, zeros, added_up}
 use Rattle.pages.specs.Object.{size_in, references_in, references_of, object_at}
 use Rattle.pages.specs.Bytes.{all_bytes}
-use Rattle.pages.specs.Words.{over, small, bytes_of, words}
+use Rattle.pages.specs.Words.{over, bytes_of, words}
 use Rattle.pages.specs.Crash.{Rows}
 use Rattle.pages.specs.Engine.{bulk_cells}
 use Rattle.pages.specs.Machine.{Asked, asked, capped, buffer_words, wanted}
-use Rattle.pages.specs.Tape.{first_page, last_page, published, Window, Does, recalls, looks, opens, lays, publishes, rows, finishes}
+use Rattle.pages.specs.Tape.{first_page, last_page, published, Window, Does, recalls, opens, lays, publishes, rows, finishes}
 use Rattle.pages.specs.declared.machine.Request.TheVariants.{Recall, Object, Lay, Publish, Show, Done, Refuse}
 use Rattle.pages.proofs.ListLaws.{pick_true, pick_false, pick_both}
 use Rattle.pages.proofs.WordLaws.{length_over, length_words, length_bytes_of, bytes_of_append, all_bytes_of}
 use Rattle.pages.proofs.BytesLaws.{all_bytes_take}
 use Rattle.objects.specs.Plan.{head_at, plan_end, rest_at}
-use Rattle.objects.specs.Heap.{Heap, Lives, Placed, units, units_at, heading_at}
+use Rattle.objects.specs.Heap.{Heap, Lives, Placed, units_at, heading_at}
 use Rattle.objects.specs.Marking.{key_words, walk, begun, sought, went_on, walked, Marked, Marks}
 use Rattle.objects.specs.declared.mark.Walk.{Walk}
 use Rattle.objects.proofs.MarkLaws.{marks}
 use Rattle.objects.proofs.PartLaws.{part_before, part_inside, parts_stay}
 use Rattle.objects.specs.Layouts.{words_for, words_at, packed_bytes, bytes_stand, file_object, file_read, bytes_put}
 use Rattle.objects.proofs.LayoutLaws.{reads_back, bytes_back, put_all}
-use Rattle.objects.specs.Sweeping.{roots_of, swung, sweep_begun, sweep_went_on, Swept, Sweeps}
+use Rattle.objects.specs.Sweeping.{roots_of, swung, sweep_went_on, Swept, Sweeps}
 use Rattle.objects.specs.declared.sweep.Sweep.{Sweep}
 use Rattle.objects.proofs.SweepLaws.{sweeps}
 use Rattle.objects.proofs.PlanLaws.{part_of_append}
@@ -47,7 +47,7 @@ use Rattle.trees.specs.declared.differences.Place.TheVariants.{New, Changed, Gon
 use Rattle.history.specs.Book.{Sum}
 use Rattle.commands.specs.Command.{a_text}
 use Rattle.house.specs.Control.{row_at, row_words, path_at, desk_end, row_of, with_row, emptied, head_word, at_phase, controlling, control_resumes, resumed, recalled, started, lays as lays_any, tight, sweeping, again, load, loaded, publish, new_head, pages_of, laid_from, laying, reference_at, squeezed_in, tree_put, lay_tree, named, file_in, lay_file, entry_weight, survey, survey_roots, surveyed, surveying, window_of, bytes_at as bytes_place, old_row_at, old_row_of, compare, compared, comparing, opened, file_came, sum_key}
-use Rattle.house.specs.Shelf.{bytes_at, FileAt, WorkAt, TreeAt, work_root, files_named}
+use Rattle.house.specs.Shelf.{bytes_at, FileAt, WorkAt, work_root, files_named}
 use Rattle.house.specs.declared.control.Control.{Control}
 use Rattle.house.specs.declared.control.Phase.{Phase}
 use Rattle.house.specs.declared.control.Phase.TheVariants.{Recalling, Loading, LayingFile, LayingTree, Publishing, Opening, Showing, Comparing}

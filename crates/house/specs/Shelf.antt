@@ -1,5 +1,5 @@
 -- What a house that keeps sheets in work holds on its tape, for the plain house that it stands for. Assumes nothing: these are definitions.
-use Rattle.std.specs.Prelude.{◌≡◌, ℕ, ◌+◌, ◌-◌, ◌*◌, ◌≤◌, true, ◌⊎◌, List, [], ◌∷◌, ◌++◌, length, take, drop, ◌==◌, slice_index}
+use Rattle.std.specs.Prelude.{◌≡◌, ℕ, ◌+◌, ◌-◌, ◌*◌, ◌≤◌, true, ◌⊎◌, List, [], ◌++◌, length, take, drop, ◌==◌, slice_index}
 use Rattle.pages.specs.Lists.{pick, each, has, zeros, added_up, distinct}
 use Rattle.pages.specs.Words.{bytes_of, words}
 use Rattle.pages.specs.Object.{size_of, kind_of, own_weight, references_of, object_at}

@@ -8,7 +8,6 @@ ghost use Rattle.std.specs.Prelude.{◌≡◌, ◌<◌, ◌≤◌, take, drop, M
 
 pub mod control;
 mod desk;
-
 pub mod laws;
 pub mod promise;
 

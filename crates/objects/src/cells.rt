@@ -61,7 +61,22 @@ pub fn walk_cells(walk: &Walk) -> [u64; 9]
 pub fn sweep_in(cells: &[u64; 14]) -> Sweep
     ensures { result ≡ sweep_in cells.now }
 {
-    let [stage, at, from, page, waiting, first, below, weight, kind, a, b, c, d, found] = *cells;
+    let [
+        stage,
+        at,
+        from,
+        page,
+        waiting,
+        first,
+        below,
+        weight,
+        kind,
+        a,
+        b,
+        c,
+        d,
+        found,
+    ] = *cells;
     Sweep {
         stage: stage_in(stage),
         walk: walk_in(&[first, below, weight, kind, a, b, c, d, found]),

@@ -1,11 +1,11 @@
 -- A reference that is put where one was just put takes its place: nothing of the first is left. Assumes nothing.
-use Rattle.std.proofs.Common.{◌≡◌, ℕ, suc, ◌+◌, ◌-◌, ◌*◌, ◌/◌, ◌≤◌, min, Bool, true, false, ltb, leb, List, [], ◌∷◌, ◌++◌, length, get_or, drop, sym, refl, ap, ◌∙◌, subst, ap₂, arith}
+use Rattle.std.proofs.Common.{◌≡◌, ℕ, suc, ◌+◌, ◌-◌, ◌*◌, ◌/◌, min, true, ltb, leb, List, [], ◌∷◌, ◌++◌, length, get_or, drop, sym, refl, ap, ◌∙◌, ap₂, arith}
 use Rattle.std.proofs.lemmas.Bool.{le-ltb}
-use Rattle.std.proofs.lemmas.List.{drop_at, append_assoc}
+use Rattle.std.proofs.lemmas.List.{drop_at}
 use Rattle.pages.specs.Lists.{pick, every, flat, same, earlier}
 use Rattle.pages.proofs.ListLaws.{pick_both, pick_true, pick_false, same_refl}
-use Rattle.trees.specs.Tree.{File, Tree, put}
-use Rattle.trees.specs.Row.{in_words, laid, held, room, entries_of, rewritten, putting, room_for, weight_put, put_key}
+use Rattle.trees.specs.Tree.{Tree, put}
+use Rattle.trees.specs.Row.{in_words, held, room, entries_of, rewritten, putting, room_for, weight_put, put_key}
 use Rattle.trees.proofs.RowOfLaws.{whole, length_words_of, length_rewritten, held_rewritten, entries_rewritten}
 use Rattle.trees.proofs.RowParts.{put_long, put_fits, put_whole}
 

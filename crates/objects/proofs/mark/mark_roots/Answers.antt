@@ -1,7 +1,7 @@
-use Rattle.std.proofs.Common.{◌≡◌, get_or, take, sym, ap, ◌∙◌, arith}
-use Rattle.std.proofs.lemmas.List.{take_all, take_more}
+use Rattle.std.proofs.Common.{get_or, take, sym, ap, ◌∙◌, arith}
+use Rattle.std.proofs.lemmas.List.{take_more}
 use Rattle.objects.specs.Marking.{rooted}
-use Rattle.objects.proofs.MarkLaws.{roots_long, roots_marked, roots_more, roots_none, roots_short}
+use Rattle.objects.proofs.MarkLaws.{roots_marked, roots_more, roots_none}
 use Rattle.objects.proofs.mark.mark_roots.Goals as goal
 
 pub loop-reference-init : goal.loop-reference-init

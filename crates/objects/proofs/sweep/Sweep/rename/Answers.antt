@@ -1,6 +1,5 @@
-use Rattle.std.proofs.Common.{◌≡◌, ◌-◌, set, ap, ◌∙◌, arith}
-use Rattle.objects.specs.Sweeping.{renaming}
-use Rattle.objects.proofs.PackSteps.{renamed_more, renamed_none}
+use Rattle.std.proofs.Common.{set, ap, ◌∙◌, arith}
+use Rattle.objects.proofs.PackSteps.{renamed_more}
 use Rattle.objects.proofs.sweep.Sweep.rename.Goals as goal
 
 pub loop-i-preserved : goal.loop-i-preserved
