@@ -32,7 +32,7 @@ use Rattle.trees.specs.Differ.{difference_here, first_difference, difference_fro
 use Rattle.trees.specs.declared.differences.Cursor.{Cursor}
 use Rattle.trees.specs.declared.differences.Difference.{Difference}
 use Rattle.trees.specs.declared.differences.Place.TheVariants.{New, Changed, Gone}
-use Rattle.trees.proofs.PackLaws.{length_key, proper_parts}
+use Rattle.trees.proofs.PackLaws.{bytes_zeros, length_key, proper_parts}
 use Rattle.trees.proofs.RowLaws.{length_cut}
 use Rattle.trees.proofs.RowParts.{length_put_key, length_take_key, length_spread_into, length_squeeze_into, small_put_key, small_take_key, small_spread_into, small_squeeze_into}
 use Rattle.history.specs.Book.{Sum}
@@ -175,13 +175,8 @@ part_few : (g k : ℕ) (m : List ℕ) → small m ≡ true → small (take k (dr
 part_few g k m h = small_take k (drop g m) (small_drop g m h)
 
 -- bytes with zeros behind them
-zeros_bytes : (n : ℕ) → all_bytes (zeros n) ≡ true
-unfolding all_bytes zeros
-zeros_bytes zero = refl
-zeros_bytes (suc n) = zeros_bytes n
-
 padded_few : (n i : ℕ) (bs : List ℕ) → all_bytes bs ≡ true → small (words n (bs ++ zeros i)) ≡ true
-padded_few n i bs h = words_small n (bs ++ zeros i) (all_bytes_append bs (zeros i) ∙ ap₂ ◌&&◌ h (zeros_bytes i))
+padded_few n i bs h = words_small n (bs ++ zeros i) (all_bytes_append bs (zeros i) ∙ ap₂ ◌&&◌ h (bytes_zeros i))
 
 key_few : (q : List ℕ) → a_name q ≡ true → small (key_of q) ≡ true
 unfolding key_of small

@@ -119,7 +119,7 @@ unfolding cut
 empty_names rest = let e : held (0 ∷ 0 ∷ rest) ≡ 0 = omega arith in ap (λ i. each reference_of (cut i rest)) e
 
 -- what an object names, whatever lies behind it
-first_names : (o z : List ℕ) → 2 + references_in (get_or o 0 0) ≤ length o → references_of (o ++ z) ≡ references_of o
+pub first_names : (o z : List ℕ) → 2 + references_in (get_or o 0 0) ≤ length o → references_of (o ++ z) ≡ references_of o
 first_names o z whole =
     ap (λ x. take (references_in x) (drop 2 (o ++ z))) (get_or_append_left o z 0 0 (omega (arith, whole)))
     ∙ part_of_append (references_in (get_or o 0 0)) 2 o z whole

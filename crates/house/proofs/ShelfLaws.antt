@@ -1,7 +1,7 @@
 -- What stands on a house's tape: what is live is the tree in work and its files; what that weighs, how many units it takes, and that a sweep leaves it as it was.
 -- Assumes nothing.
 use Rattle.std.proofs.Common.{◌≡◌, ℕ, zero, suc, ◌+◌, ◌*◌, ◌/◌, ◌<◌, ◌≤◌, Bool, true, false, not, eqb, ltb, leb, ◌⊎◌, List, [], ◌∷◌, ◌++◌, length, get_or, take, drop, sym, refl, ap, ◌∙◌, subst, ap₂, inl, inr, ⊎_elim, append_assoc, arith, length-append, length-drop}
-use Rattle.std.proofs.lemmas.List.{take-append-drop, take-append-le, drop-append-le, drop-drop, drop-take, get_or-take, get_or-drop, get_or_append_left, length-take-le}
+use Rattle.std.proofs.lemmas.List.{take_at, take-append-drop, take-append-le, drop-append-le, drop-drop, drop-take, get_or-take, get_or-drop, get_or_append_left, length-take-le}
 use Rattle.std.proofs.lemmas.Bool.{false≢true, eqb-true, eq-eqb, ne_eqb, lt-ltb, and_parts, and_from, leb-true, leb-false}
 use Rattle.pages.specs.Lists.{or, every, any, each, those, has, same, zeros, distinct, added_up}
 use Rattle.pages.specs.Words.{bytes_of, words}
@@ -10,7 +10,7 @@ use Rattle.pages.specs.Tape.{first_page, last_page}
 use Rattle.pages.proofs.ListLaws.{In, pick_both, pick_false, or_cases, or_left, or_right, every_those, has_in, in_has, those_in, in_those, each_in, in_each, each_alike, length_each, same_test, same_tells}
 use Rattle.pages.proofs.ObjectLaws.{heading_parts}
 use Rattle.pages.proofs.WordLaws.{length_words, length_zeros}
-use Rattle.objects.specs.Heap.{Live, root, named, Lives, rising, units_at, weight_at, weights}
+use Rattle.objects.specs.Heap.{has_key, Live, root, named, Lives, rising, units_at, weight_at, weights}
 use Rattle.objects.specs.Layouts.{file_bytes, file_object, packed_bytes, words_for, tree_weight_in}
 use Rattle.objects.specs.Room.{Built, Roomy, bytes_for, reserve, work_weight}
 use Rattle.objects.specs.Sweeping.{roots_of, renamed, Swept}
@@ -28,7 +28,7 @@ use Rattle.history.specs.Book.{Sum}
 use Rattle.commands.specs.Command.{a_text}
 use Rattle.house.specs.Shelf.{bytes_at, FileAt, TreeAt, WorkAt, work_root, files_named, sheets_weight, Shelf}
 use Rattle.house.proofs.SumLaws.{any_member, member_any, files_weigh, weights_by}
-use Rattle.house.proofs.Sheets.{text_parts}
+use Rattle.house.proofs.Sheets.{text_parts, first_names}
 
 -- A FILE'S OBJECT
 pub bytes_alike : (t u : List ℕ) (r s : ℕ) → object_at u s ≡ object_at t r → bytes_at u s ≡ bytes_at t r
@@ -63,6 +63,12 @@ module _ (sum : Sum) (t : List ℕ) (r : ℕ) (f : FileAt sum t r) where
 
   pub file_weighs : own_weight (object_at t r) ≡ 64 + length (bytes_at t r)
   file_weighs = ap own_weight f.is
+
+  -- it has the key of some bytes just if they have one sum
+  pub file_key : (key : List ℕ) → has_key 1 key (object_at t r) ≡ same (words 4 (sum (bytes_at t r))) key
+  file_key key =
+      ap₂ (λ k n. eqb k 1 && same (take 4 (drop (2 + n) (object_at t r))) key) file_kind file_lone
+      ∙ ap (λ o. same (take 4 (drop 2 o)) key) f.is ∙ ap (λ x. same x key) (take_at (words 4 (sum (bytes_at t r))) (packed_bytes (bytes_at t r)) 4 (length_words 4 (sum (bytes_at t r))))
 
   pub file_is_built : Built (object_at t r)
   file_is_built =
@@ -321,13 +327,9 @@ module _ (sum : Sum) (pages : ℕ) (h t : List ℕ) (tree : Tree) (s : Shelf sum
         (subst (λ w. 64 * added_up (units_at t) ls ≤ bytes_for w) shelf_weighs (takes_little t (roots_of h) ls (work_root h) lives shelf_roomy)) s.weight
 
 -- OBJECTS UNDER NEW NAMES, with words behind them
-pub references_before : (o z : List ℕ) → 2 + references_in (get_or o 0 0) ≤ length o → references_of (o ++ z) ≡ references_of o
-references_before o z l =
-    ap (λ x. take (references_in x) (drop 2 (o ++ z))) (get_or_append_left o z 0 0 (omega arith)) ∙ part_of_append (references_in (get_or o 0 0)) 2 o z l
-
 pub renamed_before : (g : ℕ → ℕ) (o z : List ℕ) → 2 + references_in (get_or o 0 0) ≤ length o → renamed g (o ++ z) ≡ renamed g o ++ z
 renamed_before g o z l =
-    ap₂ (λ a b. a ++ (each g b ++ data_of (o ++ z))) (take-append-le 2 o z (omega arith)) (references_before o z l)
+    ap₂ (λ a b. a ++ (each g b ++ data_of (o ++ z))) (take-append-le 2 o z (omega arith)) (first_names o z l)
     ∙ ap (λ x. take 2 o ++ (each g (references_of o) ++ drop (2 + references_in x) (o ++ z))) (get_or_append_left o z 0 0 (omega arith))
     ∙ ap (λ b. take 2 o ++ (each g (references_of o) ++ b)) (drop-append-le (2 + references_in (get_or o 0 0)) o z l)
     ∙ ap (λ b. take 2 o ++ b) (sym (append_assoc (each g (references_of o)) (data_of o) z))
@@ -410,7 +412,7 @@ module _ (sum : Sum) (pages : ℕ) (h t h₁ t₁ ls : List ℕ) (tree : Tree) (
               omega (arith, whole, length-append o z, ap references_in (get_or_append_left o z 0 0 (omega (arith, whole)))) in
               let new = renamed_right w.name (o ++ z) long in
               subst (λ u. (spread_fits u into ≡ true) × RowOf (bytes_at t₁) (spread_into u into) tree) (renamed_before w.name o z whole ∙ ap (λ u. u ++ z) (sym is))
-              (new.0.fits into ∙ was.0, new.1 (bytes_at t) (bytes_at t₁) into tree was.0 (λ r e. named_bytes r (ap (λ rs. has rs r) (sym (references_before o z whole)) ∙ e)) was.1);
+              (new.0.fits into ∙ was.0, new.1 (bytes_at t) (bytes_at t₁) into tree was.0 (λ r e. named_bytes r (ap (λ rs. has rs r) (sym (first_names o z whole)) ∙ e)) was.1);
         }
 
   Old : ℕ → Type 0

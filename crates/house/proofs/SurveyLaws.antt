@@ -21,35 +21,9 @@ use Rattle.trees.proofs.RowParts.{row_stands, row_files, put_references}
 use Rattle.history.specs.Book.{Sum}
 use Rattle.house.specs.Control.{sum_key}
 use Rattle.house.specs.Shelf.{bytes_at, FileAt, sheets_weight}
+use Rattle.house.proofs.ShelfLaws.{file_key, file_names, file_weighs}
 use Rattle.house.proofs.SumLaws.{files_weigh, files_weigh_more}
 use Rattle.house.proofs.Sheets.{text_parts, sum_words}
-
--- FILES on the tape
-module _ (sum : Sum) (t : List ℕ) (r : ℕ) (f : FileAt sum t r) where
-  packed_long : length (packed_bytes (bytes_at t r)) ≡ words_for (length (bytes_at t r))
-  packed_long = length_words (words_for (length (bytes_at t r))) (bytes_at t r ++ zeros 7)
-
-  short : length (bytes_at t r) < 65536
-  short = (text_parts (bytes_at t r) f.text).0
-
-  parts : (references_in (get_or (file_object (words 4 (sum (bytes_at t r))) (length (bytes_at t r)) (packed_bytes (bytes_at t r))) 0 0) ≡ 0)
-      × (kind_of (file_object (words 4 (sum (bytes_at t r))) (length (bytes_at t r)) (packed_bytes (bytes_at t r))) ≡ 1)
-  parts =
-      let h = heading_parts 1 0 (6 + length (packed_bytes (bytes_at t r))) (omega arith) (omega (arith, packed_long, short)) in
-      (h.0, h.2)
-
-  pub file_names_none : references_of (object_at t r) ≡ []
-  file_names_none = ap references_of f.is ∙ ap (λ n. take n (drop 2 (file_object (words 4 (sum (bytes_at t r))) (length (bytes_at t r)) (packed_bytes (bytes_at t r))))) parts.0
-
-  pub file_weighs : weight_at t r ≡ 64 + length (bytes_at t r)
-  file_weighs = ap own_weight f.is
-
-  -- it has the key of some bytes just if they have one sum
-  pub file_key : (key : List ℕ) → has_key 1 key (object_at t r) ≡ same (words 4 (sum (bytes_at t r))) key
-  file_key key =
-      ap (has_key 1 key) f.is
-      ∙ ap₂ (λ k n. eqb k 1 && same (take 4 (drop (2 + n) (file_object (words 4 (sum (bytes_at t r))) (length (bytes_at t r)) (packed_bytes (bytes_at t r))))) key) parts.1 parts.0
-      ∙ ap (λ x. same x key) (take_at (words 4 (sum (bytes_at t r))) (packed_bytes (bytes_at t r)) 4 (length_words 4 (sum (bytes_at t r))))
 
 -- sums of 32 bytes are told apart by their words
 pub sum_by_words : (sum : Sum) → ((bs : List ℕ) → (length (sum bs) ≡ 32) × (all_bytes (sum bs) ≡ true)) → (a b : List ℕ) → words 4 (sum a) ≡ words 4 (sum b) → sum a ≡ sum b
@@ -123,7 +97,7 @@ module _ (sum : Sum) (sums : (bs : List ℕ) → (length (sum bs) ≡ 32) × (al
       go (inr i) = in_has (references unnamed) s i
   live_named r (named s q one l e) =
       let k : (1 ≤ q) × (has (references unnamed) q ≡ true) = live_named q l in
-      absurd (false≢true (ap (λ rs. has rs s) (sym (file_names_none sum t q (files q (named_before q k.0 k.1)))) ∙ e))
+      absurd (false≢true (ap (λ rs. has rs s) (sym (file_names sum t q (files q (named_before q k.0 k.1)))) ∙ e))
 
   pub named_live : (r : ℕ) → 1 ≤ r → has (references unnamed) r ≡ true → Live t roots r
   named_live r one e = root r one (in_has roots r (in_right r (zeros 7) (references unnamed) (has_in (references unnamed) r e)))

@@ -94,3 +94,10 @@ here_ordered a b fs gs i j o e = ap (λ x. by_order x i j) (e ∙ compared (take
     go true e = refl
     go false true = refl
     go false false = refl
+
+-- the files at two places, by the order of their entries
+pub here_both : (old new : List (List ℕ)) (i j : ℕ) (a b : List ℕ) (o : Ordering) → i < length old → j < length new → a ≡ get_or old i [] → b ≡ get_or new j [] →
+    o ≡ slice_cmp nat_cmp (take 9 a) (take 9 b) → by_order o i j ≡ difference_here (drop i (each as_entry old)) (drop j (each as_entry new)) i j
+here_both old new i j a b o h k ea eb e =
+    here_ordered (get_or old i []) (get_or new j []) (drop (i + 1) (each as_entry old)) (drop (j + 1) (each as_entry new)) i j o (e ∙ ap₂ (λ x y. slice_cmp nat_cmp (take 9 x) (take 9 y)) ea eb)
+    ∙ sym (ap₂ (λ s t. difference_here s t i j) (file_at old i h) (file_at new j k))

@@ -118,7 +118,7 @@ padded p = p ++ zeros (64 - length p)
 length_pad : (p : List ℕ) → length p ≤ 64 → length (padded p) ≡ 64
 length_pad p h = omega (arith, length-append p (zeros (64 - length p)), length_zeros (64 - length p))
 
-bytes_zeros : (n : ℕ) → all_bytes (zeros n) ≡ true
+pub bytes_zeros : (n : ℕ) → all_bytes (zeros n) ≡ true
 unfolding all_bytes zeros
 bytes_zeros zero = refl
 bytes_zeros (suc n) = bytes_zeros n

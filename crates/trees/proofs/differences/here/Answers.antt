@@ -2,7 +2,7 @@ use Rattle.std.proofs.Common.{◌≡◌, ◌+◌, ◌<◌, ◌≤◌, [], length
 use Rattle.pages.specs.Lists.{each}
 use Rattle.trees.specs.Row.{as_entry}
 use Rattle.trees.specs.Differ.{difference_here}
-use Rattle.trees.proofs.DifferLaws.{file_at, file_past, here_ordered}
+use Rattle.trees.proofs.DifferLaws.{file_at, file_past, here_both}
 use Rattle.trees.proofs.differences.here.Goals as goal
 
 pub returns-in-None-Some : goal.returns-in-None-Some
@@ -21,27 +21,18 @@ returns-in-Some-None c =
 
 pub returns-in-Equal : goal.returns-in-Equal
 returns-in-Equal c =
-    let old = c.args.old.now in let new = c.args.new.now in let i = c.args.i in let j = c.args.j in
-    let h : i < length old = search rules in
-    let k : j < length new = search rules in
-    let ea : c.in-Some-Some.old.now ≡ get_or old i [] = search rules in
-    let eb : c.in-Some-Some.new.now ≡ get_or new j [] = search rules in
-    c.differs-in-Equal.ensures ∙ here_ordered (get_or old i []) (get_or new j []) (drop (i + 1) (each as_entry old)) (drop (j + 1) (each as_entry new)) i j _ (rw (ea, eb) at c.in-Equal.ensures) ∙ sym (ap₂ (λ s t. difference_here s t i j) (file_at old i h) (file_at new j k))
+    c.differs-in-Equal.ensures
+    ∙ here_both c.args.old.now c.args.new.now c.args.i c.args.j c.in-Some-Some.old.now c.in-Some-Some.new.now _ (search rules) (search rules) (search rules) (search rules)
+    c.in-Equal.ensures
 
 pub returns-in-Less : goal.returns-in-Less
 returns-in-Less c =
-    let old = c.args.old.now in let new = c.args.new.now in let i = c.args.i in let j = c.args.j in
-    let h : i < length old = search rules in
-    let k : j < length new = search rules in
-    let ea : c.in-Some-Some.old.now ≡ get_or old i [] = search rules in
-    let eb : c.in-Some-Some.new.now ≡ get_or new j [] = search rules in
-    c.differs-in-Less.ensures ∙ here_ordered (get_or old i []) (get_or new j []) (drop (i + 1) (each as_entry old)) (drop (j + 1) (each as_entry new)) i j _ (rw (ea, eb) at c.in-Less.ensures) ∙ sym (ap₂ (λ s t. difference_here s t i j) (file_at old i h) (file_at new j k))
+    c.differs-in-Less.ensures
+    ∙ here_both c.args.old.now c.args.new.now c.args.i c.args.j c.in-Some-Some.old.now c.in-Some-Some.new.now _ (search rules) (search rules) (search rules) (search rules)
+    c.in-Less.ensures
 
 pub returns-in-Greater : goal.returns-in-Greater
 returns-in-Greater c =
-    let old = c.args.old.now in let new = c.args.new.now in let i = c.args.i in let j = c.args.j in
-    let h : i < length old = search rules in
-    let k : j < length new = search rules in
-    let ea : c.in-Some-Some.old.now ≡ get_or old i [] = search rules in
-    let eb : c.in-Some-Some.new.now ≡ get_or new j [] = search rules in
-    c.differs-in-Greater.ensures ∙ here_ordered (get_or old i []) (get_or new j []) (drop (i + 1) (each as_entry old)) (drop (j + 1) (each as_entry new)) i j _ (rw (ea, eb) at c.in-Greater.ensures) ∙ sym (ap₂ (λ s t. difference_here s t i j) (file_at old i h) (file_at new j k))
+    c.differs-in-Greater.ensures
+    ∙ here_both c.args.old.now c.args.new.now c.args.i c.args.j c.in-Some-Some.old.now c.in-Some-Some.new.now _ (search rules) (search rules) (search rules) (search rules)
+    c.in-Greater.ensures
