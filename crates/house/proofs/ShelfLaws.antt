@@ -1,6 +1,6 @@
 -- What stands on a house's tape: what is live is the tree in work and its files; what that weighs, how many units it takes, and that a sweep leaves it as it was.
 -- Assumes nothing.
-use Rattle.std.proofs.Common.{◌≡◌, ℕ, zero, suc, ◌+◌, ◌*◌, ◌/◌, ◌<◌, ◌≤◌, Bool, true, false, not, eqb, ltb, leb, ◌⊎◌, List, [], ◌∷◌, ◌++◌, length, get_or, take, drop, sym, refl, ap, ◌∙◌, subst, ap₂, inl, inr, ⊎_elim, append_assoc, arith, length-append, length-drop}
+use Rattle.std.proofs.Common.{◌≡◌, ℕ, zero, suc, ◌+◌, ◌*◌, ◌/◌, ◌<◌, ◌≤◌, Bool, true, false, not, ◌&&◌, eqb, ltb, leb, ◌⊎◌, List, [], ◌∷◌, ◌++◌, length, get_or, take, drop, sym, refl, ap, ◌∙◌, subst, ap₂, inl, inr, ⊎_elim, append_assoc, arith, length-append, length-drop}
 use Rattle.std.proofs.lemmas.List.{take_at, take-append-drop, take-append-le, drop-append-le, drop-drop, drop-take, get_or-take, get_or-drop, get_or_append_left, length-take-le}
 use Rattle.std.proofs.lemmas.Bool.{false≢true, eqb-true, eq-eqb, ne_eqb, lt-ltb, and_parts, and_from, leb-true, leb-false}
 use Rattle.pages.specs.Lists.{or, every, any, each, those, has, same, zeros, distinct, added_up}
@@ -16,7 +16,6 @@ use Rattle.objects.specs.Room.{Built, Roomy, bytes_for, reserve, work_weight}
 use Rattle.objects.specs.Sweeping.{roots_of, renamed, Swept}
 use Rattle.objects.proofs.MarkLaws.{has_cases}
 use Rattle.objects.proofs.PackLaws.{heading_renamed, references_renamed}
-use Rattle.objects.proofs.PlanLaws.{part_of_append}
 use Rattle.objects.proofs.SweptLaws.{whole_object}
 use Rattle.objects.proofs.RoomLaws.{layouts_built, takes_little, ring_has_room}
 use Rattle.trees.specs.Tree.{Tree}

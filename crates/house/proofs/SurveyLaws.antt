@@ -1,16 +1,13 @@
 -- What a survey tells of a file that is to be written: whether it is live already, and how much is to be kept after it. Assumes nothing.
-use Rattle.std.proofs.Common.{◌≡◌, ℕ, zero, suc, ◌+◌, ◌<◌, ◌≤◌, Bool, true, false, ◌&&◌, eqb, ◌⊎◌, List, [], ◌∷◌, ◌++◌, length, get_or, take, drop, sym, refl, ap, ◌∙◌, subst, ap₂, inl, inr, arith}
+use Rattle.std.proofs.Common.{◌≡◌, ℕ, zero, suc, ◌+◌, ◌≤◌, Bool, true, false, eqb, ◌⊎◌, List, [], ◌∷◌, ◌++◌, length, sym, refl, ap, ◌∙◌, subst, inl, inr, arith}
 use Rattle.std.proofs.lemmas.Bool.{le-leb, ne_eqb, eqb-false, and_parts, false≢true}
-use Rattle.std.proofs.lemmas.List.{take_at}
 use Rattle.pages.specs.Lists.{pick, or, any, each, has, same, earlier, zeros}
 use Rattle.pages.specs.Bytes.{all_bytes}
 use Rattle.pages.specs.Words.{words, bytes_of}
-use Rattle.pages.specs.Object.{kind_of, own_weight, references_in, references_of, object_at}
+use Rattle.pages.specs.Object.{object_at}
 use Rattle.pages.proofs.ListLaws.{In, has_in, in_has, in_append, in_right, each_in, in_each, any_in, any_from, none_any, pick_true, pick_false, pick_both, or_cases, or_left, or_right, same_true, same_from, same_refl, same_not, same_test}
-use Rattle.pages.proofs.ObjectLaws.{heading_parts}
-use Rattle.pages.proofs.WordLaws.{length_words, bytes_of_words}
+use Rattle.pages.proofs.WordLaws.{bytes_of_words}
 use Rattle.objects.specs.Heap.{Live, root, named, Lives, weights, weight_at, has_key}
-use Rattle.objects.specs.Layouts.{words_for, packed_bytes, file_object}
 use Rattle.objects.specs.Marking.{key_words}
 use Rattle.trees.specs.Tree.{Tree, put}
 use Rattle.trees.specs.Row.{good_path, key_of, room, references, put_in, put_key}
@@ -23,7 +20,7 @@ use Rattle.house.specs.Control.{sum_key}
 use Rattle.house.specs.Shelf.{bytes_at, FileAt, sheets_weight}
 use Rattle.house.proofs.ShelfLaws.{file_key, file_names, file_weighs}
 use Rattle.house.proofs.SumLaws.{files_weigh, files_weigh_more}
-use Rattle.house.proofs.Sheets.{text_parts, sum_words}
+use Rattle.house.proofs.Sheets.{sum_words}
 
 -- sums of 32 bytes are told apart by their words
 pub sum_by_words : (sum : Sum) → ((bs : List ℕ) → (length (sum bs) ≡ 32) × (all_bytes (sum bs) ≡ true)) → (a b : List ℕ) → words 4 (sum a) ≡ words 4 (sum b) → sum a ≡ sum b
