@@ -1,4 +1,5 @@
 // Laws of the book: theorems about the definitions in specs/, each on the contract of a function that does nothing else.
+ghost use Rattle.history.specs.Chain.{ChainLog};
 ghost use Rattle.history.specs.Laws.{IdsTell, LatestRight, LogOrder, GrowsBehind, BackRight, UnderRight};
 
 // Ids tell commits apart, as long as sums do.
@@ -29,4 +30,9 @@ pub fn back_is_right()
 // A commit comes from itself; what it comes from is lower; and coming from goes on.
 pub fn under_is_an_order()
     ensures { UnderRight }
+{}
+
+// Where no commit has more than one parent, a log is the chain from commit to parent.
+pub fn logs_of_single_parents()
+    ensures { ChainLog }
 {}
