@@ -297,6 +297,8 @@ class Day:
         self.counts[command[0]] += 1
         if reply:
             self.counts[f"refused {reply}"] += 1
+        elif command[0] == "write":
+            self.counts["longest"] = max(self.counts["longest"], len(command[2]))
 
     def line(self, command):
         return line_of(command, self.random.random() < 0.3) + b"\n"
@@ -460,7 +462,7 @@ class Day:
                      "  left as before it", "  left as after it", "  in one that sweeps first", "    the sweep's head was there", "    the sweep's head was not there"):
             print(f"{name}: {c[name]}")
         print("refused: " + ", ".join(f"{c[f'refused {n}']} with {n}" for n in (1, 2, 3, 8, 10)))
-        print(f"sweeps: {c['sweeps']}")
+        print(f"longest sheet written: {c['longest']}; sweeps: {c['sweeps']}")
         print(f"starts: {c['starts']}; all was asked: {c['compared']} times, with {c['reads']} reads")
         print(f"mismatches: {c['mismatches']}")
 
