@@ -1,0 +1,45 @@
+// What is answered to a command, and all that can be asked.
+use commands::{Command, Refusal};
+use pages::told::Told;
+use std::alloc::{AllocError, Global};
+
+#[derive(PartialEq, Drop)]
+pub struct Answer {
+    // The act that ended the command.
+    pub end: Told,
+    // What it showed.
+    pub rows: Vec<Vec<u8>>,
+}
+
+impl Answer {
+    // One that shows nothing.
+    pub fn bare(heap: Global, end: Told) -> Answer {
+        Answer {
+            end,
+            rows: Vec::new(heap),
+        }
+    }
+}
+
+pub fn refused(why: Refusal) -> Told {
+    Told::No(why.number())
+}
+
+// A house that runs, or a map beside it.
+pub trait Answers {
+    fn answer(&mut self, command: Command<'_>) -> Result<Answer, AllocError>;
+}
+
+// All that can be asked: what is in work, and what is read at each of these paths.
+pub fn look<H: Answers>(
+    heap: Global,
+    house: &mut H,
+    paths: &[Vec<u8>],
+) -> Result<Vec<Answer>, AllocError> {
+    let mut seen = Vec::new(heap);
+    seen.push(house.answer(Command::Status)?)?;
+    for path in paths {
+        seen.push(house.answer(Command::ReadFile(path.as_slice()))?)?;
+    }
+    Ok(seen)
+}

@@ -1,0 +1,135 @@
+// A house beside an ordinary map: full to the last byte, with as many files as there may be, and stopped at every act.
+#![tactic(auto)]
+
+mod answer;
+mod many;
+mod model;
+mod random;
+mod rig;
+mod trial;
+
+use std::alloc::{AllocError, Global};
+use std::time::Instant;
+use trial::{Counts, Trial};
+
+const PAGES: u64 = 64;
+
+// How many rounds there are of each.
+#[derive(Clone, Copy)]
+struct Plan {
+    rounds: u64,
+    files: u16,
+    watched: u64,
+    watched_rounds: u64,
+}
+
+const WHOLE: Plan = Plan {
+    rounds: 200,
+    files: 4_096,
+    watched: 12,
+    watched_rounds: 4,
+};
+
+// A few of each, for a run that is slow: any argument asks for it.
+const SMALL: Plan = Plan {
+    rounds: 2,
+    files: 10,
+    watched: 1,
+    watched_rounds: 1,
+};
+
+// So many paths, from short to long.
+fn paths(heap: Global, many: u8) -> Result<Vec<Vec<u8>>, AllocError> {
+    (0..many)
+        .map(|i| vec![in heap; i; 1 + usize::from(i) * 63 / usize::from(many)])
+        .try_collect(heap)
+}
+
+// Full houses of few and of many paths, for so many rounds each.
+fn press(heap: Global, rounds: u64) -> Result<Counts, AllocError> {
+    let mut all = Counts::default();
+    for many in [1, 2, 5, 12, 30, 60] {
+        let mut trial = Trial::new(heap, PAGES, u64::from(many), paths(heap, many)?)?;
+        for _ in 0..rounds {
+            trial.round()?;
+        }
+        all += trial.counts();
+    }
+    Ok(all)
+}
+
+// Short runs at full houses, with a stop at every act.
+fn stumble(heap: Global, trials: u64, rounds: u64) -> Result<Counts, AllocError> {
+    let mut all = Counts::default();
+    for i in 0..trials {
+        let mut trial = Trial::new(heap, PAGES, i.saturating_add(1_000), paths(heap, 6)?)?;
+        trial.round()?;
+        trial.watch()?;
+        for _ in 0..rounds {
+            trial.round()?;
+        }
+        all += trial.counts();
+    }
+    Ok(all)
+}
+
+// Says how long something took.
+fn print_time(rt: &HostRuntime, start: Instant) -> std::io::Result<()> {
+    let time = start.elapsed(rt)?.as_millis();
+    eprintln!(rt; "{time} milliseconds")
+}
+
+fn run(rt: &HostRuntime, plan: Plan) -> anyhow::Result<()> {
+    let start = Instant::now(rt)?;
+    let Counts {
+        commands,
+        writes,
+        no_room,
+        sweeps,
+        wrong,
+        ..
+    } = press(rt.alloc(), plan.rounds)?;
+    println!(rt;
+        "full houses: {commands} commands, {writes} writes, {no_room} had no room, {sweeps} sweeps, {wrong} wrong"
+    )?;
+    print_time(rt, start)?;
+    let start = Instant::now(rt)?;
+    let Counts {
+        writes,
+        too_many,
+        sweeps,
+        wrong,
+        ..
+    } = many::crowd(rt.alloc(), plan.files)?;
+    println!(rt;
+        "many files: {writes} writes, {too_many} were too many, {sweeps} sweeps, {wrong} wrong"
+    )?;
+    print_time(rt, start)?;
+    let start = Instant::now(rt)?;
+    let Counts {
+        commands,
+        no_room,
+        sweeps,
+        stops,
+        old,
+        new,
+        same,
+        again,
+        wrong,
+        ..
+    } = stumble(rt.alloc(), plan.watched, plan.watched_rounds)?;
+    println!(rt;
+        "stops: {commands} commands, {no_room} had no room, {sweeps} sweeps: {stops} stops, {old} came up as before, {new} as after, {same} where nothing was to change, {again} were said again, {wrong} wrong"
+    )?;
+    print_time(rt, start)?;
+    Ok(())
+}
+
+fn main(rt: HostRuntime) -> anyhow::Result<()> {
+    let plan = if std::env::args(&rt)?.count() > 1 {
+        SMALL
+    } else {
+        WHOLE
+    };
+    run(&rt, plan)
+}
