@@ -33,6 +33,9 @@ impl<T: Drop> From<AllocFailed<T>> for Trouble {
     }
 }
 
+// The path of a file that no day names.
+const GOING_ON: &[u8] = b"~going on";
+
 // A command that is said at a house, and how many letters its line carries.
 #[derive(Clone, Copy)]
 struct Saying<'a> {
@@ -186,6 +189,29 @@ impl Queries {
     }
 }
 
+impl Queries {
+    // Adds a command that has been added before, too.
+    fn say(&mut self, command: Command<'_>) -> Result<(), AllocError> {
+        if let Some(text) = spelled(self.heap, command)? {
+            self.all.push(text)?;
+        }
+        Ok(())
+    }
+
+    // All is asked again after the house went on: a file more is written over until a house of 64 pages has swept, and taken out.
+    fn go_on(&mut self) -> Result<(), AllocError> {
+        let asked = self.all.clone()?;
+        for i in 0..12u8 {
+            self.say(Command::WriteFile(GOING_ON, &[i]))?;
+        }
+        self.say(Command::DropFile(GOING_ON))?;
+        for text in asked.iter() {
+            self.all.push(text.clone()?)?;
+        }
+        Ok(())
+    }
+}
+
 // Adds the paths that are not there yet.
 fn add_paths<'a>(paths: &mut Vec<&'a [u8]>, tree: &'a Tree) -> Result<(), AllocError> {
     for path in tree.files.keys() {
@@ -298,6 +324,16 @@ impl Bench {
         }
     }
 
+    // How much may be kept: a quarter of what the pages hold.
+    fn most(&self, c: usize) -> u64 {
+        (self.size(c) as u64).saturating_mul(128)
+    }
+
+    // How much more may be kept.
+    pub fn room(&self, c: usize) -> Result<u64, AllocError> {
+        Ok(self.most(c).saturating_sub(self.weight(c)?))
+    }
+
     // What the house answered, and what the plain house does.
     fn beside(&self, what: &str, house: &Answer, plain: &Answer) -> Result<String, AllocError> {
         format!(in self.heap; "{what}: the house {house}, the plain house {plain}")
@@ -339,8 +375,7 @@ impl Bench {
         match self.plain.turn(c, command)? {
             Ok(shown) => {
                 let after = self.weight(c)?;
-                let room = (self.size(c) as u64).saturating_mul(128);
-                if after > before && after > room {
+                if after > before && after > self.most(c) {
                     self.undo(past);
                     return Ok(self.refused(Refusal::NoRoom));
                 }
@@ -380,12 +415,14 @@ impl Bench {
         })
     }
 
-    // What the plain house answers to queries, which change nothing.
+    // What the plain house answers to queries. It is left as it was.
     fn plain_answers(&mut self, c: usize, queries: &[Vec<u8>]) -> Result<Vec<Answer>, AllocError> {
+        let past = self.plain.past(c)?;
         let mut all = vec![in self.heap; self.bare(End::Done)]?;
         for text in queries {
             all.push(self.right_answer(c, text.as_slice())?)?;
         }
+        self.undo(past);
         Ok(all)
     }
 
@@ -417,6 +454,7 @@ impl Bench {
         let past = self.plain.past(c)?;
         let expected = self.expect(said)?;
         queries.add_all(&self.plain, c)?;
+        queries.go_on()?;
         let new = self.plain_answers(c, queries.all.as_slice())?;
         self.undo(past);
         let old = self.plain_answers(c, queries.all.as_slice())?;
@@ -433,6 +471,7 @@ impl Bench {
     fn outlook_of_power(&mut self, c: usize) -> Result<Outlook, AllocError> {
         let mut queries = Queries::new(self.heap);
         queries.add_all(&self.plain, c)?;
+        queries.go_on()?;
         let old = self.plain_answers(c, queries.all.as_slice())?;
         Ok(Outlook {
             house: c,

@@ -190,10 +190,10 @@ fn play_random<F: FnMut(&Item) -> io::Result<()>>(
     let whose = format!(in rt.alloc(); "seed {seed}")?;
     let mut agrees = true;
     for i in 0..dice.below(80).saturating_add(20) as usize {
-        let house = dice.below(setting.houses as u64) as usize;
+        let house = dice.house(setting.houses);
         let stop = dice.stop()?;
         let what = if bench.is_up(house) {
-            dice.said(&bench.plain)?
+            dice.said(&bench.plain, bench.room(house)?)?
         } else {
             What::Power
         };

@@ -9,15 +9,20 @@ use device::Left;
 use plain::houses::Plain;
 use std::alloc::{AllocError, Global};
 
-const PATHS: [&str; 8] = [
+// Among them some that differ in the last of 64 bytes, or by a zero at the end alone.
+const PATHS: [&str; 12] = [
     "a",
     "b",
     "c",
     "ab",
     "a/b",
+    "a\0",
     "lock",
     "weir",
+    "eight-by",
+    "eight-byt",
     "a-path-of-sixty-four-bytes-that-is-the-longest-there-can-be-here",
+    "a-path-of-sixty-four-bytes-that-is-the-longest-there-can-be-herf",
 ];
 
 const NAMES: [&str; 6] = ["main", "a", "b", "north", "x", "tag"];
@@ -69,7 +74,7 @@ impl Dice {
     }
 
     fn path(&mut self) -> &'static [u8] {
-        PATHS[self.below(8) as usize].as_bytes()
+        PATHS[self.below(12) as usize].as_bytes()
     }
 
     fn name(&mut self) -> &'static [u8] {
@@ -86,21 +91,26 @@ impl Dice {
         Ok(row)
     }
 
-    // How long a text is: mostly short, now and then long enough to fill a house.
-    fn size(&mut self) -> u64 {
+    // How long a text is: mostly short, now and then long enough to fill a house, or about as long as there is room for.
+    fn size(&mut self, room: u64) -> u64 {
         match self.below(20) {
             0 => 0,
             1 => 65535,
             2 => self.below(65536),
             3 => self.below(4096),
             4..=6 => self.below(600),
+            7 => room
+                .saturating_add(1)
+                .saturating_sub(self.below(3))
+                .min(65535),
+            8 => self.below(65).saturating_mul(8),
             _ => self.below(3),
         }
     }
 
-    fn bytes(&mut self) -> Result<Vec<u8>, AllocError> {
+    fn bytes(&mut self, room: u64) -> Result<Vec<u8>, AllocError> {
         let first = self.below(4);
-        let size = self.size();
+        let size = self.size(room);
         (0..size)
             .map(|i| (i.wrapping_mul(first).wrapping_add(97) % 256) as u8)
             .collect(self.heap)
@@ -116,11 +126,15 @@ impl Dice {
         Ok(row)
     }
 
-    // The kind of a command, or none: mostly one that is known.
+    // The kind of a command, or none: mostly one that is known, often a write, and rarely `leave`, which empties.
     fn kind(&mut self) -> Option<Kind> {
+        if self.below(5) < 2 {
+            return Some(Kind::WriteFile);
+        }
         for _ in 0..8 {
             let kind = self.any_kind();
-            if kind.is_some_and(is_known) {
+            let waits = kind == Some(Kind::Leave) && self.below(4) > 0;
+            if kind.is_some_and(is_known) && !waits {
                 return kind;
             }
         }
@@ -133,21 +147,28 @@ impl Dice {
     }
 
     // The bytes of a command of a kind; where there is none, or where they do not fit, bytes that spell none.
-    fn command(&mut self, plain: &Plain, kind: Option<Kind>) -> Result<Vec<u8>, AllocError> {
+    fn command(
+        &mut self,
+        plain: &Plain,
+        room: u64,
+        kind: Option<Kind>,
+    ) -> Result<Vec<u8>, AllocError> {
         let Some(kind) = kind else {
-            return self.bytes();
+            return self.bytes(room);
         };
         let heap = self.heap;
         let houses = plain.houses.len() as u64;
         let text = match kind {
             Kind::WriteFile => {
                 let path = self.path();
-                spelled(heap, Command::WriteFile(path, self.bytes()?.as_slice()))?
+                // What a new file at a new path weighs beside its bytes.
+                let room = room.saturating_sub(128).saturating_sub(path.len() as u64);
+                spelled(heap, Command::WriteFile(path, self.bytes(room)?.as_slice()))?
             }
             Kind::DropFile => spelled(heap, Command::DropFile(self.path()))?,
             Kind::Commit => {
                 let stamp = self.below(6);
-                spelled(heap, Command::Commit(stamp, self.bytes()?.as_slice()))?
+                spelled(heap, Command::Commit(stamp, self.bytes(room)?.as_slice()))?
             }
             Kind::Branch => spelled(heap, Command::Branch(self.name()))?,
             Kind::GoTo => spelled(heap, Command::GoTo(self.name()))?,
@@ -171,7 +192,7 @@ impl Dice {
         };
         match text {
             Some(row) => Ok(row),
-            None => self.bytes(),
+            None => self.bytes(room),
         }
     }
 
@@ -189,14 +210,22 @@ impl Dice {
         Ok(Some(Stop { acts, left }))
     }
 
-    // A command, and a line that mostly carries more than any command sends.
-    pub fn said(&mut self, plain: &Plain) -> Result<What, AllocError> {
+    // Which house is next: one time in two the first, so that it comes to sweep.
+    pub fn house(&mut self, houses: usize) -> usize {
+        if self.below(2) == 0 {
+            return 0;
+        }
+        self.below(houses as u64) as usize
+    }
+
+    // A command at a house with so much room, and a line that mostly carries more than any command sends.
+    pub fn said(&mut self, plain: &Plain, room: u64) -> Result<What, AllocError> {
         let kind = self.kind();
         let letters = if self.below(4) == 0 {
             self.below(64)
         } else {
             LONG_LINE
         };
-        Ok(What::Said(self.command(plain, kind)?, letters))
+        Ok(What::Said(self.command(plain, room, kind)?, letters))
     }
 }
