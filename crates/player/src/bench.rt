@@ -430,7 +430,7 @@ impl Bench {
         Run::power(self.heap, c, self.worlds.len(), self.size(c))
     }
 
-    // What a house that has power answers to queries.
+    // What a house that has power answers to queries, up to one that does not end.
     fn house_answers(
         &self,
         alone: &mut Pair,
@@ -442,6 +442,9 @@ impl Bench {
             let mut run = Run::command(self.heap, text.as_slice(), 0)?;
             run.drive(alone, MOST_ACTS)?;
             all.push(run.answer()?)?;
+            if run.end == End::Running {
+                break;
+            }
         }
         Ok(all)
     }

@@ -10,10 +10,11 @@ use pages::told::{Event, Told};
 use std::alloc::{AllocError, Global};
 use std::fmt;
 
-// Acts that one who was written to has for its reply, and that are given to a command.
+// Acts that one who was written to has for its reply.
 const REPLY_ACTS: u64 = 16777216;
 
-pub const MOST_ACTS: u64 = 1 << 32;
+// Acts that are given to a command; one that takes more is held not to end.
+pub const MOST_ACTS: u64 = REPLY_ACTS;
 
 // How a command stands.
 #[derive(Clone, Copy, Debug, PartialEq, Eq)]
