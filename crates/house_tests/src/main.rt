@@ -14,30 +14,6 @@ use trial::{Counts, Trial};
 
 const PAGES: u64 = 64;
 
-// How many rounds there are of each.
-#[derive(Clone, Copy)]
-struct Plan {
-    rounds: u64,
-    files: u16,
-    watched: u64,
-    watched_rounds: u64,
-}
-
-const WHOLE: Plan = Plan {
-    rounds: 200,
-    files: 4_096,
-    watched: 12,
-    watched_rounds: 4,
-};
-
-// A few of each, for a run that is slow: any argument asks for it.
-const SMALL: Plan = Plan {
-    rounds: 2,
-    files: 10,
-    watched: 1,
-    watched_rounds: 1,
-};
-
 // So many paths, from short to long.
 fn paths(heap: Global, many: u8) -> Result<Vec<Vec<u8>>, AllocError> {
     (0..many)
@@ -79,7 +55,7 @@ fn print_time(rt: &HostRuntime, start: Instant) -> std::io::Result<()> {
     eprintln!(rt; "{time} milliseconds")
 }
 
-fn run(rt: &HostRuntime, plan: Plan) -> anyhow::Result<()> {
+fn run(rt: &HostRuntime) -> anyhow::Result<()> {
     let start = Instant::now(rt)?;
     let Counts {
         commands,
@@ -88,7 +64,7 @@ fn run(rt: &HostRuntime, plan: Plan) -> anyhow::Result<()> {
         sweeps,
         wrong,
         ..
-    } = press(rt.alloc(), plan.rounds)?;
+    } = press(rt.alloc(), 200)?;
     println!(rt;
         "full houses: {commands} commands, {writes} writes, {no_room} had no room, {sweeps} sweeps, {wrong} wrong"
     )?;
@@ -100,7 +76,7 @@ fn run(rt: &HostRuntime, plan: Plan) -> anyhow::Result<()> {
         sweeps,
         wrong,
         ..
-    } = many::crowd(rt.alloc(), plan.files)?;
+    } = many::crowd(rt.alloc())?;
     println!(rt;
         "many files: {writes} writes, {too_many} were too many, {sweeps} sweeps, {wrong} wrong"
     )?;
@@ -117,7 +93,7 @@ fn run(rt: &HostRuntime, plan: Plan) -> anyhow::Result<()> {
         again,
         wrong,
         ..
-    } = stumble(rt.alloc(), plan.watched, plan.watched_rounds)?;
+    } = stumble(rt.alloc(), 12, 4)?;
     println!(rt;
         "stops: {commands} commands, {no_room} had no room, {sweeps} sweeps: {stops} stops, {old} came up as before, {new} as after, {same} where nothing was to change, {again} were said again, {wrong} wrong"
     )?;
@@ -126,10 +102,5 @@ fn run(rt: &HostRuntime, plan: Plan) -> anyhow::Result<()> {
 }
 
 fn main(rt: HostRuntime) -> anyhow::Result<()> {
-    let plan = if std::env::args(&rt)?.count() > 1 {
-        SMALL
-    } else {
-        WHOLE
-    };
-    run(&rt, plan)
+    run(&rt)
 }

@@ -25,12 +25,12 @@ fn write(trial: &mut Trial, i: u16, bytes: u64, end: Told) -> Result<(), AllocEr
 }
 
 // Fills it; then one more is refused, an old one is overwritten, and for one that is dropped another one is written.
-pub fn crowd(heap: Global, files: u16) -> Result<Counts, AllocError> {
+pub fn crowd(heap: Global) -> Result<Counts, AllocError> {
     let paths = (0..=MOST_FILES)
         .map(|i| path(i).to_vec(heap))
         .try_collect(heap)?;
     let mut trial = Trial::new(heap, PAGES, 1, paths)?;
-    for i in (0..files).map(scattered) {
+    for i in (0..MOST_FILES).map(scattered) {
         write(&mut trial, i, u64::from(i), Told::Done)?;
     }
     let more = path(MOST_FILES);
