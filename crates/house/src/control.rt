@@ -39,6 +39,12 @@ pub enum Task {
     Read = 3,
     Status = 4,
     Leave = 5,
+    // A version is noted.
+    Note = 6,
+    // The log is shown.
+    Log = 7,
+    // A file of the last commit is shown.
+    View = 8,
 }
 
 // What was asked of the tape last.
@@ -60,6 +66,17 @@ pub enum Phase {
     Showing = 9,
     // A difference, as a row.
     Comparing = 10,
+    // The commit of the branch.
+    OpeningTip = 11,
+    // Its tree, to be compared to.
+    LoadingOld = 12,
+    // The sum of a file.
+    Summing = 13,
+    LayingCommit = 14,
+    // A commit of the log.
+    OpeningLogged = 15,
+    // Its id and words, as a row.
+    ShowingLogged = 16,
 }
 
 // A task as a cell has it.
@@ -73,6 +90,9 @@ impl From<u64> for Task {
             3 => Task::Read,
             4 => Task::Status,
             5 => Task::Leave,
+            6 => Task::Note,
+            7 => Task::Log,
+            8 => Task::View,
             _ => Task::Nothing,
         }
     }
@@ -109,6 +129,12 @@ impl From<u64> for Phase {
             8 => Phase::Opening,
             9 => Phase::Showing,
             10 => Phase::Comparing,
+            11 => Phase::OpeningTip,
+            12 => Phase::LoadingOld,
+            13 => Phase::Summing,
+            14 => Phase::LayingCommit,
+            15 => Phase::OpeningLogged,
+            16 => Phase::ShowingLogged,
             _ => Phase::Resting,
         }
     }
@@ -120,6 +146,14 @@ impl Phase {
     {
         self as u64
     }
+}
+
+// What a version is noted with, besides its tree and its words.
+#[derive(Clone, Copy, Debug, PartialEq, Eq)]
+pub struct Version {
+    pub stamp: u64,
+    // The id of the commit from which it comes.
+    pub parent: Key,
 }
 
 // What a house keeps in its cells. From one command to the next only the first three mean anything.
@@ -140,6 +174,7 @@ pub struct Control {
     pub root: u64,
     // Where the next difference is looked for.
     pub cursor: Cursor,
+    pub version: Version,
     pub sweep: Sweep,
     pub walk: Walk,
 }
