@@ -148,6 +148,10 @@ coming_from parent k = control k.house k.houses k.pages k.task k.phase k.bytes k
 abbrev pub identified : Key → Control → Control
 identified id k = control k.house k.houses k.pages k.task k.phase k.bytes id k.page k.root k.cursor k.version k.sweep k.walk
 
+-- the tree that comes in place of the one in work
+abbrev pub rooted : ℕ → Control → Control
+rooted root k = control k.house k.houses k.pages k.task k.phase k.bytes k.sum k.page root k.cursor k.version k.sweep k.walk
+
 abbrev pub counted : ℕ → Control → Control
 counted i k = control k.house k.houses k.pages k.task Summing k.bytes k.sum k.page k.root (cursor i 0) k.version k.sweep k.walk
 
@@ -393,7 +397,7 @@ settled k w m Write = pick (w.found == 0) (lay_file k m (head_word m 1)) (lay_tr
 settled k w m Drop = asked k m Done
 settled k w m Read = asked k m Done
 settled k w m Status = asked k m Done
-settled k w m Leave = asked k m Done
+settled k w m Leave = publish k m (head_word m 1) k.root (head_word m 3)
 settled k w m Note = pick (w.found == 0) (lay_commit k m (head_word m 1)) (publish k m (head_word m 1) (head_word m 2) w.found)
 settled k w m Log = asked k m Done
 settled k w m View = asked k m Done
@@ -498,21 +502,21 @@ abbrev pub load : Sum → Control → List ℕ → ℕ → Asked Control
 load sum k m root =
     pick (root == 0) (loaded sum k (emptied row_at m) k.task) (asked (at_phase Loading k) m (Object (capped (8 * (root - 1))) buffer_words))
 
--- THE LAST COMMIT'S TREE is named: it is compared to, put in work, or looked into
-abbrev pub under_tip : Sum → Control → List ℕ → ℕ → Task → Asked Control
-under_tip sum k m root Nothing = asked k m Done
-under_tip sum k m root Write = asked k m Done
-under_tip sum k m root Drop = asked k m Done
-under_tip sum k m root Read = asked k m Done
-under_tip sum k m root Status = load_old sum k m root
-under_tip sum k m root Leave = publish k m (head_word m 1) root (head_word m 3)
-under_tip sum k m root Note = load_old sum k m root
-under_tip sum k m root Log = asked k m Done
-under_tip sum k m root View = load sum k m root
+-- THE LAST COMMIT'S TREE is named, with what it weighs: it is compared to, put in work if there is room for that, or looked into
+abbrev pub under_tip : Sum → Control → List ℕ → (root weight : ℕ) → Task → Asked Control
+under_tip sum k m root weight Nothing = asked k m Done
+under_tip sum k m root weight Write = asked k m Done
+under_tip sum k m root weight Drop = asked k m Done
+under_tip sum k m root weight Read = asked k m Done
+under_tip sum k m root weight Status = load_old sum k m root
+under_tip sum k m root weight Leave = survey (rooted root k) (over row_at (0 ∷ weight ∷ []) m)
+under_tip sum k m root weight Note = load_old sum k m root
+under_tip sum k m root weight Log = asked k m Done
+under_tip sum k m root weight View = load sum k m root
 
 abbrev pub tip_came : Sum → Control → List ℕ → Option Layout → Asked Control
 tip_came sum k m None = asked k m (Refuse 2)
-tip_came sum k m (Some c) = under_tip sum (coming_from c.id k) m c.tree k.task
+tip_came sum k m (Some c) = under_tip sum (coming_from c.id k) m c.tree c.tree_weight k.task
 
 -- THE LOG: a commit is shown, then the one from which it comes
 abbrev pub log_from : Control → List ℕ → ℕ → Asked Control
