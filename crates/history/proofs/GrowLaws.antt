@@ -1,13 +1,13 @@
 -- What stands in the book stays as it is when more comes behind it.
 use Rattle.std.proofs.Common.{◌≡◌, ℕ, zero, suc, ◌+◌, ◌<◌, ◌≤◌, Bool, true, false, not, ◌&&◌, eqb, ltb, ◌⊎◌, List, [], ◌∷◌, ◌++◌, length, sym, refl, ap, ◌∙◌, subst, inl, inr, ⊎_elim, suc-add, zero-add, arith, length-append}
-use Rattle.std.proofs.lemmas.Bool.{ltb-true}
+use Rattle.std.proofs.lemmas.Bool.{ltb-true, lt-ltb, cases_order}
 use Rattle.std.proofs.lemmas.Bool.Decides.{Decides-eqb}
-use Rattle.pages.specs.Lists.{pick, any, each, those, flat, has, earlier}
-use Rattle.pages.proofs.ListLaws.{In, every_in, flat_in, each_alike, flat_alike, those_alike, any_alike, those_in, Once, once_those, once_length_but}
-use Rattle.history.specs.Book.{Commit, Book, Sum, nth, id, id_within, commit_spelled, added, closed, back, under, sooner, soonest, next_of, free, in_order, log}
+use Rattle.pages.specs.Lists.{pick, every, any, each, those, flat, has, earlier}
+use Rattle.pages.proofs.ListLaws.{In, every_in, every_from, flat_in, each_alike, flat_alike, those_alike, any_alike, those_in, Once, once_those, once_length_but}
+use Rattle.history.specs.Book.{Commit, Book, Sum, nth, id, id_within, commit_spelled, added, closed, back, noted, place, under, sooner, soonest, next_of, free, in_order, log}
 use Rattle.history.specs.Laws.{Grown, GrowsBehind}
-use Rattle.history.proofs.BookLaws.{nth_front, parent_lower}
-use Rattle.history.proofs.BackLaws.{added_in, added_none, back_parents, once_back, once_few, back_within}
+use Rattle.history.proofs.BookLaws.{nth_front, nth_beyond, nth_end, length_more, parent_lower, noted_either, nth_noted}
+use Rattle.history.proofs.BackLaws.{added_in, added_none, Steps, Comes, comes_lower, comes_parent, in_back, back_in, back_self, back_parents, once_back, once_few, back_within}
 use Rattle.history.proofs.LogLaws.{Free, one_turn, free_in, in_order_none, in_order_one}
 
 -- two books that have the same commits up to a number, and the parents of those below it are below it
@@ -141,3 +141,76 @@ grows_behind sum b more g = (
   λ k l. (id_more sum b more k g l, log_more sum b more (k ∷ []) g (λ x. elim [ inl e ↦ subst (λ z. z < length b) e l | inr n ↦ absurd n ]) (λ i. i, tt)),
   λ ks h. back_more b more ks g (λ k i. ltb-true k (length b) (every_in (λ j. ltb j (length b)) ks h k i)),
 )
+
+-- A COMMIT'S ID is the sum over how it is spelled, what it comes from by ids
+pub agree_self : (b : Book) → Grown b → Agree (length b) b b
+agree_self b g = record { nth_is = λ k l. refl; low = λ k j l i. let m : j < k = parent_lower b k j g i in omega arith }
+
+id_by : (m : ℕ) (sum : Sum) (b : Book) (k : ℕ) → Grown b → k < m → k < length b →
+    id_within m sum b k ≡ sum (commit_spelled sum (each (id sum b) (nth b k).parents) (nth b k))
+unfolding id_within
+id_by zero sum b k g l q = absurd (omega arith)
+id_by (suc m) sum b k g l q =
+    ap (λ ids. sum (commit_spelled sum ids (nth b k)))
+    (each_alike (id_within m sum b) (id sum b) (nth b k).parents
+    (λ j i. let o : j < k = parent_lower b k j g i in id_agree m (length b) (length b) sum b b j g (agree_self b g) (omega arith) (omega arith) (omega arith)))
+
+pub id_noted : (sum : Sum) (b : Book) (k : ℕ) → Grown b → k < length b → id sum b k ≡ sum (commit_spelled sum (each (id sum b) (nth b k).parents) (nth b k))
+id_noted sum b k g l = id_by (length b) sum b k g l l
+
+-- A COMMIT IS NOTED, on top of commits that were noted before
+module _ (b : Book) (c : Commit) (grown : Grown b) (low : Below (length b) c.parents) where
+  grown_end : Grown (b ++ (c ∷ []))
+  unfolding Grown
+  grown_end k = go (cases_order k (length b))
+    where
+      go : (k ≡ length b) ⊎ ((k < length b) ⊎ (length b < k)) → every (λ j. ltb j k) (nth (b ++ (c ∷ [])) k).parents ≡ true
+      go (inl e) =
+          ap (λ (x : Commit). every (λ j. ltb j k) x.parents) (ap (nth (b ++ (c ∷ []))) e ∙ nth_end b c)
+          ∙ every_from (λ j. ltb j k) c.parents (λ j i. let l : j < length b = low j i in lt-ltb j k (omega arith))
+      go (inr (inl l)) = ap (λ (x : Commit). every (λ j. ltb j k) x.parents) (nth_front b (c ∷ []) k l) ∙ grown k
+      go (inr (inr l)) =
+          let m : length (b ++ (c ∷ [])) ≡ suc (length b) = length_more b c in
+          ap (λ (x : Commit). every (λ j. ltb j k) x.parents) (nth_beyond (b ++ (c ∷ [])) k (omega arith))
+
+  pub grown_noted : Grown (noted c b)
+  grown_noted = noted_either Grown c b (λ _. grown) (λ _. grown_end)
+
+  pub noted_front : (k : ℕ) → k < length b → nth (noted c b) k ≡ nth b k
+  noted_front k l = noted_either (λ z. nth z k ≡ nth b k) c b (λ _. refl) (λ _. nth_front b (c ∷ []) k l)
+
+  pub noted_parents : (k : ℕ) → In k c.parents → In k (nth (noted c b) (place c b)).parents
+  noted_parents k i = subst (λ (x : Commit). In k x.parents) (sym (nth_noted c b)) i
+
+  -- it is none of those that it comes from, nor of those from which these come
+  pub place_above : (k : ℕ) → In k (back b c.parents) → k < place c b
+  place_above k i =
+      let r : (h : ℕ) × In h c.parents × Comes b h k = back_in b c.parents k i in
+      let l : k ≤ r.0 = comes_lower b r.0 k grown r.2 in
+      let m : r.0 < place c b = parent_lower (noted c b) (place c b) r.0 grown_noted (noted_parents r.0 r.1) in
+      omega arith
+
+  back_stays : back (noted c b) c.parents ≡ back b c.parents
+  back_stays = noted_either (λ z. back z c.parents ≡ back b c.parents) c b (λ _. refl) (λ _. back_more b (c ∷ []) c.parents grown low)
+
+  -- what comes before it: it, and what comes before those that it comes from
+  pub back_noted : (k : ℕ) → In k (back (noted c b) (place c b ∷ [])) → In k (place c b ∷ back b c.parents)
+  back_noted k i = go (back_in (noted c b) (place c b ∷ []) k i)
+    where
+      by : (n : ℕ) → Steps (noted c b) n (place c b) k → In k (place c b ∷ back b c.parents)
+      by zero s = inl s
+      by (suc n) (j, h, s) =
+          inr (subst (In k) back_stays (in_back (noted c b) c.parents j k grown_noted (subst (λ (x : Commit). In j x.parents) (nth_noted c b) h) (n, s)))
+
+      go : (h : ℕ) × In h (place c b ∷ []) × Comes (noted c b) h k → In k (place c b ∷ back b c.parents)
+      go (h, inl e, (n, s)) = by n (subst (λ x. Steps (noted c b) n x k) (sym e) s)
+      go (h, inr n, s) = absurd n
+
+  pub noted_back : (k : ℕ) → In k (place c b ∷ back b c.parents) → In k (back (noted c b) (place c b ∷ []))
+  noted_back k (inl e) = subst (λ x. In x (back (noted c b) (place c b ∷ []))) e (back_self (noted c b) (place c b ∷ []) (place c b) grown_noted (inl refl))
+  noted_back k (inr i) =
+      let r : (h : ℕ) × In h c.parents × Comes (noted c b) h k = back_in (noted c b) c.parents k (subst (In k) (sym back_stays) i) in
+      in_back (noted c b) (place c b ∷ []) (place c b) k grown_noted (inl refl) (comes_parent (noted c b) (place c b) r.0 k (noted_parents r.0 r.1) r.2)
+
+  pub once_noted : Once c.parents → Once (place c b ∷ back b c.parents)
+  once_noted o = (λ i. let l : place c b < place c b = place_above (place c b) i in omega arith, once_back b c.parents o)

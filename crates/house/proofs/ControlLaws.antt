@@ -47,20 +47,20 @@ pub behind_written : (b new ws : List ℕ) → row_words ≤ length b → length
 behind_written b new ws h l e = put_over 0 row_words new b (l ∙ length-take-le row_words b h) ∙ ap (λ x. over 0 x b) e
 
 -- a front that stays, and a row over the rest
-pub row_behind : (m front back ws : List ℕ) → front ≡ take row_at m → back ≡ drop row_at m → front ++ over 0 ws back ≡ with_row ws m
-row_behind m front back ws f b =
-    ap₂ (λ x y. x ++ (ws ++ drop (0 + length ws) y)) f b ∙ ap (λ y. take row_at m ++ (ws ++ y)) (drop-drop (0 + length ws) row_at m ∙ ap (λ n. drop n m) n)
+row_behind : (at : ℕ) (m front back ws : List ℕ) → front ≡ take at m → back ≡ drop at m → front ++ over 0 ws back ≡ over at ws m
+row_behind at m front back ws f b =
+    ap₂ (λ x y. x ++ (ws ++ drop (0 + length ws) y)) f b ∙ ap (λ y. take at m ++ (ws ++ y)) (drop-drop (0 + length ws) at m ∙ ap (λ n. drop n m) n)
   where
-    n : row_at + (0 + length ws) ≡ row_at + length ws
+    n : at + (0 + length ws) ≡ at + length ws
     n = omega arith
 
-pub spread_behind_front : (m front back new : List ℕ) → front ≡ take row_at m → back ≡ drop row_at m →
+pub spread_behind_front : (at : ℕ) (m front back new : List ℕ) → buffer_words ≤ at → front ≡ take at m → back ≡ drop at m →
     new ≡ over 0 (spread_into (take buffer_words front) (take row_words back)) back →
-    front ++ new ≡ with_row (spread_into (take buffer_words m) (row_of m)) m
-spread_behind_front m front back new f b e =
-    ap (λ x. front ++ x) e ∙ row_behind m front back (spread_into (take buffer_words front) (take row_words back)) f b
-    ∙ ap₂ (λ x y. with_row (spread_into (take buffer_words x) (take row_words y)) m) f b
-    ∙ ap (λ x. with_row (spread_into x (row_of m)) m) (take-take buffer_words row_at m (omega arith))
+    front ++ new ≡ over at (spread_into (take buffer_words m) (take row_words (drop at m))) m
+spread_behind_front at m front back new h f b e =
+    ap (λ x. front ++ x) e ∙ row_behind at m front back (spread_into (take buffer_words front) (take row_words back)) f b
+    ∙ ap₂ (λ x y. over at (spread_into (take buffer_words x) (take row_words y)) m) f b
+    ∙ ap (λ x. over at (spread_into x (take row_words (drop at m))) m) (take-take buffer_words at m h)
 
 pub squeezed_before : (m front back new : List ℕ) → front ≡ take row_at m → back ≡ drop row_at m →
     new ≡ squeeze_into (take row_words back) (take buffer_words front) ++ drop buffer_words front →
@@ -162,18 +162,19 @@ kept_marked first roots m front back now h b f n =
     ws = with_references first roots (zeros map_words)
 
 -- THE NEW HEAD
-two_set : (h rest : List ℕ) (a b : ℕ) → 3 ≤ length h → set (set (h ++ rest) 1 a) 2 b ≡ (get_or h 0 0 ∷ a ∷ b ∷ drop 3 h) ++ rest
-two_set [] rest a b h = absurd (omega arith)
-two_set (x ∷ []) rest a b h = absurd (omega arith)
-two_set (x ∷ y ∷ []) rest a b h = absurd (omega arith)
-two_set (x ∷ y ∷ z ∷ xs) rest a b h = refl
+three_set : (h rest : List ℕ) (a b d : ℕ) → 4 ≤ length h → set (set (set (h ++ rest) 1 a) 2 b) 3 d ≡ (get_or h 0 0 ∷ a ∷ b ∷ d ∷ drop 4 h) ++ rest
+three_set [] rest a b d h = absurd (omega arith)
+three_set (x ∷ []) rest a b d h = absurd (omega arith)
+three_set (x ∷ y ∷ []) rest a b d h = absurd (omega arith)
+three_set (x ∷ y ∷ z ∷ []) rest a b d h = absurd (omega arith)
+three_set (x ∷ y ∷ z ∷ w ∷ xs) rest a b d h = refl
 
-pub head_made : (m copied : List ℕ) (page root : ℕ) → desk_end ≤ length m → copied ≡ over 0 (take 32 (drop head_at m)) m →
-    set (set copied 1 page) 2 root ≡ over 0 (new_head page root m) m
-head_made m copied page root h e =
-    ap (λ x. set (set x 1 page) 2 root) e ∙ two_set head rest page root (omega (arith, long))
-    ∙ ap₂ (λ x y. (x ∷ page ∷ root ∷ drop 3 head) ++ y) (get_or-take 32 (drop head_at m) 0 0 (omega arith) ∙ get_or-drop head_at m 0 0)
-    (ap (λ n. drop n m) (omega (arith, long, length-drop 3 head)))
+pub head_made : (m copied : List ℕ) (page root tip : ℕ) → desk_end ≤ length m → copied ≡ over 0 (take 32 (drop head_at m)) m →
+    set (set (set copied 1 page) 2 root) 3 tip ≡ over 0 (new_head page root tip m) m
+head_made m copied page root tip h e =
+    ap (λ x. set (set (set x 1 page) 2 root) 3 tip) e ∙ three_set head rest page root tip (omega (arith, long))
+    ∙ ap₂ (λ x y. (x ∷ page ∷ root ∷ tip ∷ drop 4 head) ++ y) (get_or-take 32 (drop head_at m) 0 0 (omega arith) ∙ get_or-drop head_at m 0 0)
+    (ap (λ n. drop n m) (omega (arith, long, length-drop 4 head)))
   where
     head : List ℕ
     head = take 32 (drop head_at m)

@@ -1,23 +1,26 @@
 -- The control's branches: what each test decides. Assumes nothing.
-use Rattle.std.proofs.Common.{◌≡◌, ℕ, ◌+◌, ◌-◌, ◌*◌, ◌<◌, ◌≤◌, min, Bool, true, false, not, ◌&&◌, eqb, leb, ltb, List, length, take, drop, Some, None, Option, Bor, Ok, Err, Result, sym, refl, ap, ◌∙◌, ap₂, arith}
+use Rattle.std.proofs.Common.{◌≡◌, ℕ, ◌+◌, ◌-◌, ◌*◌, ◌<◌, ◌≤◌, min, Bool, true, false, not, ◌&&◌, eqb, leb, ltb, List, ◌++◌, length, get_or, take, drop, Some, None, Option, Bor, Ok, Err, Result, sym, refl, ap, ◌∙◌, ap₂, arith}
 use Rattle.std.proofs.lemmas.Bool.{and_parts, eq-eqb, eqb-true, leb-true, le-ltb, lt-ltb}
-use Rattle.std.proofs.lemmas.List.{length-take}
+use Rattle.std.proofs.lemmas.List.{get_or-take, get_or-drop, length-take}
 use borrow.Rule.Slice.PartMut.{put_mid}
 use Rattle.std.specs.Result.{is_err}
 use Rattle.pages.specs.Lists.{pick}
 use Rattle.pages.specs.Machine.{Asked, asked, buffer_words, capped}
 use Rattle.pages.specs.Words.{over}
 use Rattle.pages.specs.declared.machine.Request.{Request}
-use Rattle.pages.specs.declared.machine.Request.TheVariants.{Object, Recall, Refuse}
+use Rattle.pages.specs.declared.machine.Request.TheVariants.{Done, Object, Recall, Refuse}
 use Rattle.pages.proofs.ListLaws.{false_unless, pick_true, pick_false}
-use Rattle.objects.specs.Layouts.{answered, bytes_put, bytes_stand, in_front, words_at, words_for}
+use Rattle.objects.specs.Layouts.{answered, bytes_put, bytes_stand, commit_fits, commit_of, in_front, words_at, words_for}
+use Rattle.objects.specs.declared.layouts.Commit.{Commit as Layout}
+use Rattle.objects.proofs.LayoutLaws.{at_most}
 use Rattle.objects.specs.Plan.{plan_end}
 use Rattle.objects.specs.Marking.{begun, walk}
 use Rattle.objects.specs.Sweeping.{sweep_begun, swung}
 use Rattle.objects.specs.Room.{quarter}
 use Rattle.objects.proofs.PlanLaws.{over_before, over_same}
 use Rattle.objects.specs.declared.mark.Key.{Key}
-use Rattle.trees.specs.Row.{has_key, put_key, room_for, take_key}
+use Rattle.objects.specs.declared.mark.Walk.{Walk}
+use Rattle.trees.specs.Row.{has_key, held, put_key, references, room_for, take_key}
 use Rattle.trees.specs.Packed.{squeezed, squeeze_answer}
 use Rattle.trees.specs.declared.rows.Refused.{Refused}
 use Rattle.trees.specs.declared.rows.Refused.TheVariants.{Full}
@@ -28,11 +31,18 @@ use Rattle.commands.specs.declared.command.Command.TheVariants.{WriteFile, DropF
 use Rattle.history.specs.Book.{Sum}
 use Rattle.house.specs.declared.control.Control.{Control}
 use Rattle.house.specs.declared.control.Phase.{Phase}
-use Rattle.house.specs.declared.control.Phase.TheVariants.{LayingFile, LayingTree, Loading}
+use Rattle.house.specs.declared.control.Phase.TheVariants.{LayingCommit, LayingFile, LayingTree, OpeningTip}
 use Rattle.house.specs.declared.control.Task.{Task}
-use Rattle.house.specs.declared.control.Task.TheVariants.{Nothing, Write, Drop, Read, Status, Leave}
-use Rattle.house.specs.Control.{again, at_phase, bytes_at, control_resumes, desk_end, emptied, entry_weight, file_in, head_word, hearing, kept, laid_from, lay_file, lay_tree, lays, load, loaded, named, path_key, path_put, recalled, reference_at, resumed, row_at, row_of, row_words, said_of, squeezed_in, started, survey, surveyed, surveying, survey_roots, sum_key, sweeping, tight, tree_put, window_of, with_row}
+use Rattle.house.specs.declared.control.Task.TheVariants.{Nothing, Write, Drop, Read, Status, Leave, Note, Log, View}
+use Rattle.house.specs.Control.{again, against, ask_tip, at_phase, bytes_at, commit_in, commit_put, control_resumes, counted, desk_end, entry_weight, file_in, head_word, hearing, kept, kind_sought, laid_from, lay_commit, lay_file, lay_tree, layout_in, lays, load, loaded, named, path_key, path_put, publish, recalled, reference_at, resumed, row_at, row_of, row_words, said_of, settled, squeezed_in, started, survey, surveyed, surveying, survey_roots, sum_key, sum_next, summed, sweeping, tight, tree_put, under_tip, window_of, with_row}
 use Rattle.house.proofs.ControlLaws.{row_written}
+
+-- A NUMBER THAT MAY BE 0
+pub is_zero : {A : Type 0} (n : ℕ) (x y : A) → n ≡ 0 → pick (eqb n 0) x y ≡ x
+is_zero n x y e = pick_true (eqb n 0) x y (eq-eqb n 0 e)
+
+pub not_zero : {A : Type 0} (n : ℕ) (x y : A) → (n ≡ 0 → ⊥) → pick (eqb n 0) x y ≡ y
+not_zero n x y f = pick_false (eqb n 0) x y (false_unless (eqb n 0) (λ t. f (eqb-true n 0 t)))
 
 -- THE TREE IS LAID, where its row could be stored
 squeezed_fits : (ws out : List ℕ) (words : ℕ) → Some words ≡ squeeze_answer ws out → words ≤ length out
@@ -93,19 +103,53 @@ file_some k k₁ m m₁ m₂ page words at r q a s e g n is =
     is ∙ ap₂ (λ x y. laid_from LayingFile k x page y k.root) (n ∙ ap₂ named g front) f.1
     ∙ sym (pick_true (bytes_stand 65535 k.bytes bytes_at m) _ (asked k m (Refuse 2)) f.0)
 
+-- THE COMMIT IS LAID, where its words stand
+answer_fits : (b : Bool) (o : List ℕ) (words : ℕ) → Some words ≡ answered b o → (b ≡ true) × (words ≡ length o)
+answer_fits true o words e = (refl, cc)
+answer_fits false o words e = absurd (cc)
+
+pub commit_words : (k : Control) (m : List ℕ) (o : Layout) (words : ℕ) (r : Option ℕ) → o ≡ layout_in k m →
+    r ≡ answered (commit_fits o bytes_at m) (commit_of o (words_at o.bytes bytes_at m)) → r ≡ Some words → words < 4294967296
+commit_words k m o words r e a s =
+    let f = answer_fits (commit_fits o bytes_at m) (commit_of o (words_at o.bytes bytes_at m)) words (sym s ∙ a) in
+    let stand = (and_parts (bytes_stand 65535 o.bytes bytes_at m) _ f.0).0 in
+    let few : o.bytes ≤ 65535 = at_most 65535 o.bytes bytes_at m stand in
+    let long : length (commit_of o (words_at o.bytes bytes_at m)) ≡ 11 + length (words_at o.bytes bytes_at m) = omega arith in
+    omega (arith, f.1, length-take (words_for o.bytes) (drop bytes_at m))
+
+pub commit_answered : (k k₁ : Control) (m m₁ : List ℕ) (page : ℕ) (o : Layout) (r : Option ℕ) (q : Request) → o ≡ layout_in k m →
+    r ≡ answered (commit_fits o bytes_at m) (commit_of o (words_at o.bytes bytes_at m)) →
+    m₁ ≡ in_front (commit_fits o bytes_at m) (commit_of o (words_at o.bytes bytes_at m)) m →
+    asked k₁ m₁ q ≡ commit_put k m₁ page r → asked k₁ m₁ q ≡ lay_commit k m page
+commit_answered k k₁ m m₁ page o r q e a f is =
+    is ∙ ap₂ (λ x y. commit_put k x page y) f a
+    ∙ ap (λ o. commit_put k (in_front (commit_fits o bytes_at m) (commit_of o (words_at o.bytes bytes_at m)) m) page (answered (commit_fits o bytes_at m) (commit_of o (words_at o.bytes bytes_at m)))) e
+
 -- THE SURVEY BEGINS
 eightfold : (x y r : ℕ) → y ≡ x → r ≡ min (y * 8) 18446744073709551615 → r ≡ capped (8 * x)
 eightfold x y r e f = omega arith
 
-pub window_is : (k : Control) (m : List ℕ) (a b d f g : ℕ) → a ≡ head_word m 0 → b ≡ head_word m 1 → d ≡ b - a → f ≡ min (a * 8) 18446744073709551615 →
-    g ≡ min (d * 8) 18446744073709551615 → walk f g 0 1 k.sum 0 ≡ window_of k m
-window_is k m a b d f g ea eb ed ef eg =
-    ap₂ (λ x y. walk x y 0 1 k.sum 0) (eightfold (head_word m 0) a f ea ef)
+pub window_is : (k : Control) (m : List ℕ) (a b d f g kind : ℕ) → a ≡ head_word m 0 → b ≡ head_word m 1 → d ≡ b - a → f ≡ min (a * 8) 18446744073709551615 →
+    g ≡ min (d * 8) 18446744073709551615 → kind ≡ kind_sought k.task → walk f g 0 kind k.sum 0 ≡ window_of k m
+window_is k m a b d f g kind ea eb ed ef eg ek =
+    ap₂ (λ x y. walk x y 0 kind k.sum 0) (eightfold (head_word m 0) a f ea ef)
     (eightfold (head_word m 1 - head_word m 0) d g (ed ∙ ap₂ (λ x y. x - y) eb ea) eg)
+    ∙ ap (λ x. walk (capped (8 * head_word m 0)) (capped (8 * (head_word m 1 - head_word m 0))) 0 x k.sum 0) ek
 
-pub kept_begun : (m m₁ : List ℕ) (a f : ℕ) → a ≡ head_word m 0 → f ≡ min (a * 8) 18446744073709551615 → m₁ ≡ begun f (survey_roots m) m →
-    m₁ ≡ begun (capped (8 * head_word m 0)) (survey_roots m) m
-kept_begun m m₁ a f ea ef e = e ∙ ap (λ x. begun x (survey_roots m) m) (eightfold (head_word m 0) a f ea ef)
+pub kept_begun : (t : Task) (m m₁ : List ℕ) (a f : ℕ) → a ≡ head_word m 0 → f ≡ min (a * 8) 18446744073709551615 → m₁ ≡ begun f (survey_roots t m) m →
+    m₁ ≡ begun (capped (8 * head_word m 0)) (survey_roots t m) m
+kept_begun t m m₁ a f ea ef e = e ∙ ap (λ x. begun x (survey_roots t m) m) (eightfold (head_word m 0) a f ea ef)
+
+pub roots_kept : (t : Task) (m : List ℕ) → (t ≡ Note → ⊥) → take 7 (drop 41155 m) ++ references (row_of m) ≡ survey_roots t m
+roots_kept Nothing m f = refl
+roots_kept Write m f = refl
+roots_kept Drop m f = refl
+roots_kept Read m f = refl
+roots_kept Status m f = refl
+roots_kept Leave m f = refl
+roots_kept Note m f = absurd (f refl)
+roots_kept Log m f = refl
+roots_kept View m f = refl
 
 -- ALL IS MET
 pub no_room : (k : Control) (m : List ℕ) (much most : ℕ) (q : Request) → much ≡ kept k k.walk m → most ≡ quarter (min k.pages 4294967296) → most < much → q ≡ Refuse 8 →
@@ -114,21 +158,37 @@ no_room k m much most q a b h e =
     ap (asked (surveying k k.walk) m) e
     ∙ sym (pick_true (ltb (quarter (min k.pages 4294967296)) (kept k k.walk m)) (asked (surveying k k.walk) m (Refuse 8)) _ (lt-ltb (quarter (min k.pages 4294967296)) (kept k k.walk m) (omega arith)))
 
-room_left : (k : Control) (m : List ℕ) (much most : ℕ) → much ≡ kept k k.walk m → most ≡ quarter (min k.pages 4294967296) → much ≤ most →
-    pick (eqb k.walk.found 0) (lay_file (surveying k k.walk) m (head_word m 1)) (lay_tree (surveying k k.walk) (named k.walk.found m) (head_word m 1)) ≡ surveyed k k.walk m
-room_left k m much most a b h =
-    sym (pick_false (ltb (quarter (min k.pages 4294967296)) (kept k k.walk m)) (asked (surveying k k.walk) m (Refuse 8)) _ (le-ltb (quarter (min k.pages 4294967296)) (kept k k.walk m) (omega arith)))
+pub room_left : (k : Control) (m : List ℕ) (much most : ℕ) (a : Asked Control) → much ≡ kept k k.walk m → most ≡ quarter (min k.pages 4294967296) → much ≤ most →
+    a ≡ settled (surveying k k.walk) k.walk m k.task → a ≡ surveyed k k.walk m
+room_left k m much most a e f h is =
+    is ∙ sym (pick_false (ltb (quarter (min k.pages 4294967296)) (kept k k.walk m)) (asked (surveying k k.walk) m (Refuse 8)) _ (le-ltb (quarter (min k.pages 4294967296)) (kept k k.walk m) (omega arith)))
 
-pub file_is_new : (k : Control) (m : List ℕ) (much most page : ℕ) (a : Asked Control) → much ≡ kept k k.walk m → most ≡ quarter (min k.pages 4294967296) → much ≤ most →
-    k.walk.found ≡ 0 → page ≡ head_word m 1 → a ≡ lay_file (surveying k k.walk) m page → a ≡ surveyed k k.walk m
-file_is_new k m much most page a e f h z p is =
-    is ∙ ap (lay_file (surveying k k.walk) m) p ∙ sym (pick_true (eqb k.walk.found 0) _ _ (eq-eqb k.walk.found 0 z)) ∙ room_left k m much most e f h
+pub settled_else : (k : Control) (w : Walk) (m : List ℕ) (t : Task) → (t ≡ Write → ⊥) → (t ≡ Note → ⊥) → (t ≡ Leave → ⊥) → asked k m Done ≡ settled k w m t
+settled_else k w m Nothing f g h = refl
+settled_else k w m Write f g h = absurd (f refl)
+settled_else k w m Drop f g h = refl
+settled_else k w m Read f g h = refl
+settled_else k w m Status f g h = refl
+settled_else k w m Leave f g h = absurd (h refl)
+settled_else k w m Note f g h = absurd (g refl)
+settled_else k w m Log f g h = refl
+settled_else k w m View f g h = refl
 
-pub file_is_there : (k : Control) (m m₁ : List ℕ) (much most page : ℕ) (a : Asked Control) → much ≡ kept k k.walk m → most ≡ quarter (min k.pages 4294967296) → much ≤ most →
-    (k.walk.found ≡ 0 → ⊥) → page ≡ head_word m 1 → m₁ ≡ named k.walk.found m → a ≡ lay_tree (surveying k k.walk) m₁ page → a ≡ surveyed k k.walk m
-file_is_there k m m₁ much most page a e f h z p n is =
-    is ∙ ap₂ (lay_tree (surveying k k.walk)) n p
-    ∙ sym (pick_false (eqb k.walk.found 0) _ _ (false_unless (eqb k.walk.found 0) (λ t. z (eqb-true k.walk.found 0 t)))) ∙ room_left k m much most e f h
+pub file_is_new : (k : Control) (m : List ℕ) (page : ℕ) (a : Asked Control) → k.walk.found ≡ 0 → page ≡ head_word m 1 → a ≡ lay_file k m page →
+    a ≡ settled k k.walk m Write
+file_is_new k m page a z p is = is ∙ ap (lay_file k m) p ∙ sym (is_zero k.walk.found _ _ z)
+
+pub file_is_there : (k : Control) (m m₁ : List ℕ) (page : ℕ) (a : Asked Control) → (k.walk.found ≡ 0 → ⊥) → page ≡ head_word m 1 →
+    m₁ ≡ named k.walk.found m → a ≡ lay_tree k m₁ page → a ≡ settled k k.walk m Write
+file_is_there k m m₁ page a z p n is = is ∙ ap₂ (lay_tree k) n p ∙ sym (not_zero k.walk.found _ _ z)
+
+pub commit_is_new : (k : Control) (m : List ℕ) (page : ℕ) (a : Asked Control) → k.walk.found ≡ 0 → page ≡ head_word m 1 → a ≡ lay_commit k m page →
+    a ≡ settled k k.walk m Note
+commit_is_new k m page a z p is = is ∙ ap (lay_commit k m) p ∙ sym (is_zero k.walk.found _ _ z)
+
+pub commit_is_there : (k : Control) (m : List ℕ) (page root : ℕ) (a : Asked Control) → (k.walk.found ≡ 0 → ⊥) → page ≡ head_word m 1 → root ≡ head_word m 2 →
+    a ≡ publish k m page root k.walk.found → a ≡ settled k k.walk m Note
+commit_is_there k m page root a z p r is = is ∙ ap₂ (λ x y. publish k m x y k.walk.found) p r ∙ sym (not_zero k.walk.found _ _ z)
 
 -- THE ROW IS CHANGED, or stays
 same_row : (m new ws : List ℕ) → desk_end ≤ length m → length new ≡ length (row_of m) → new ≡ ws → ws ≡ row_of m → put_mid row_at row_words m new ≡ m
@@ -153,92 +213,133 @@ put_said true failed r e f = sym (ap not (f ∙ ap is_err e))
 put_said false failed r e f = sym (ap not (f ∙ ap is_err e))
 
 -- a file is written into the row
-pub write_full : (k : Control) (m new key : List ℕ) (weight : ℕ) (q : Request) → desk_end ≤ length m → length new ≡ length (row_of m) →
+pub write_full : (sum : Sum) (k : Control) (m new key : List ℕ) (weight : ℕ) (q : Request) → desk_end ≤ length m → length new ≡ length (row_of m) →
     new ≡ put_key key weight 0 (row_of m) → key ≡ path_key m → room_for key 0 (row_of m) ≡ false → q ≡ Refuse 10 →
-    asked k (put_mid row_at row_words m new) q ≡ loaded k m Write
-write_full k m new key weight q h l e p f r =
+    asked k (put_mid row_at row_words m new) q ≡ loaded sum k m Write
+write_full sum k m new key weight q h l e p f r =
     ap₂ (asked k) (put_fails m new key weight h l e f) r
     ∙ sym (pick_false (room_for (path_key m) 0 (row_of m)) _ (asked k m (Refuse 10)) (ap (λ x. room_for x 0 (row_of m)) (sym p) ∙ f))
 
-pub write_fits : (k : Control) (m new key : List ℕ) (weight : ℕ) (a : Asked Control) → desk_end ≤ length m → length new ≡ length (row_of m) →
+pub write_fits : (sum : Sum) (k : Control) (m new key : List ℕ) (weight : ℕ) (a : Asked Control) → desk_end ≤ length m → length new ≡ length (row_of m) →
     new ≡ put_key key weight 0 (row_of m) → key ≡ path_key m → weight ≡ entry_weight m → room_for key 0 (row_of m) ≡ true →
-    a ≡ survey k (put_mid row_at row_words m new) → a ≡ loaded k m Write
-write_fits k m new key weight a h l e p w f is =
+    a ≡ survey k (put_mid row_at row_words m new) → a ≡ loaded sum k m Write
+write_fits sum k m new key weight a h l e p w f is =
     is ∙ ap (survey k) (row_written m new _ h l (e ∙ ap₂ (λ x y. put_key x y 0 (row_of m)) p w))
     ∙ sym (pick_true (room_for (path_key m) 0 (row_of m)) (survey k (named 0 m)) _ (ap (λ x. room_for x 0 (row_of m)) (sym p) ∙ f))
 
 -- a file is taken out of the row
-pub take_none : (k : Control) (m new key : List ℕ) (weight : ℕ) (q : Request) → desk_end ≤ length m → length new ≡ length (row_of m) →
+pub take_none : (sum : Sum) (k : Control) (m new key : List ℕ) (weight : ℕ) (q : Request) → desk_end ≤ length m → length new ≡ length (row_of m) →
     new ≡ take_key key weight (row_of m) → key ≡ path_key m → has_key key (row_of m) ≡ false → q ≡ Refuse 3 →
-    asked k (put_mid row_at row_words m new) q ≡ loaded k m Drop
-take_none k m new key weight q h l e p f r =
+    asked k (put_mid row_at row_words m new) q ≡ loaded sum k m Drop
+take_none sum k m new key weight q h l e p f r =
     ap₂ (asked k) (take_fails m new key weight h l e f) r
     ∙ sym (pick_false (has_key (path_key m) (row_of m)) _ (asked k m (Refuse 3)) (ap (λ x. has_key x (row_of m)) (sym p) ∙ f))
 
-pub take_some : (k : Control) (m new key : List ℕ) (weight page : ℕ) (a : Asked Control) → desk_end ≤ length m → length new ≡ length (row_of m) →
+pub take_some : (sum : Sum) (k : Control) (m new key : List ℕ) (weight page : ℕ) (a : Asked Control) → desk_end ≤ length m → length new ≡ length (row_of m) →
     new ≡ take_key key weight (row_of m) → key ≡ path_key m → weight ≡ entry_weight m → has_key key (row_of m) ≡ true →
-    page ≡ head_word (put_mid row_at row_words m new) 1 → a ≡ lay_tree k (put_mid row_at row_words m new) page → a ≡ loaded k m Drop
-take_some k m new key weight page a h l e p w f g is =
+    page ≡ head_word (put_mid row_at row_words m new) 1 → a ≡ lay_tree k (put_mid row_at row_words m new) page → a ≡ loaded sum k m Drop
+take_some sum k m new key weight page a h l e p w f g is =
     let row : put_mid row_at row_words m new ≡ with_row (take_key (path_key m) (entry_weight m) (row_of m)) m =
     row_written m new _ h l (e ∙ ap₂ (λ x y. take_key x y (row_of m)) p w) in
     is ∙ ap₂ (lay_tree k) row (g ∙ ap (λ x. head_word x 1) row ∙ head_stays (take_key (path_key m) (entry_weight m) (row_of m)) m h)
     ∙ sym (pick_true (has_key (path_key m) (row_of m)) _ (asked k m (Refuse 3)) (ap (λ x. has_key x (row_of m)) (sym p) ∙ f))
 
+-- THE NEXT SUM
+pub next_sum : (sum : Sum) (k : Control) (m : List ℕ) (file at : ℕ) → file < held (row_of m) → at ≡ capped (8 * (get_or m (188640 + 10 * file + 11) 0 - 1)) →
+    asked (counted file k) m (Object at 6) ≡ sum_next sum k m file
+next_sum sum k m file at lt e =
+    ap (λ x. asked (counted file k) m (Object x 6)) (e ∙ ap (λ w. capped (8 * (w - 1))) word) ∙ sym (pick_true (ltb file (held (row_of m))) _ _ (lt-ltb file (held (row_of m)) lt))
+  where
+    place : row_at + (10 * file + 11) ≡ 188640 + 10 * file + 11
+    place = omega arith
+
+    word : get_or m (188640 + 10 * file + 11) 0 ≡ get_or (row_of m) (10 * file + 11) 0
+    word = ap (λ i. get_or m i 0) (sym place) ∙ sym (get_or-drop row_at m (10 * file + 11) 0) ∙ sym (get_or-take row_words (drop row_at m) (10 * file + 11) 0 (omega arith))
+
+pub all_summed : (sum : Sum) (k : Control) (m : List ℕ) (file : ℕ) (a : Asked Control) → held (row_of m) ≤ file → a ≡ summed sum k m → a ≡ sum_next sum k m file
+all_summed sum k m file a le is = is ∙ sym (pick_false (ltb file (held (row_of m))) _ _ (le-ltb file (held (row_of m)) le))
+
+-- THE LAST COMMIT, if there is one
+pub no_tip : {A : Type 0} (m : List ℕ) (tip : ℕ) (a x y : A) → tip ≡ head_word m 3 → tip ≡ 0 → a ≡ x → a ≡ pick (eqb (head_word m 3) 0) x y
+no_tip m tip a x y e z is = is ∙ sym (is_zero (head_word m 3) x y (sym e ∙ z))
+
+pub some_tip : (k : Control) (m : List ℕ) (tip : ℕ) (a x : Asked Control) → tip ≡ head_word m 3 → (tip ≡ 0 → ⊥) →
+    a ≡ asked (at_phase OpeningTip k) m (Object (capped (8 * (tip - 1))) buffer_words) → a ≡ pick (eqb (head_word m 3) 0) x (ask_tip k m)
+some_tip k m tip a x e z is =
+    is ∙ ap (λ r. asked (at_phase OpeningTip k) m (Object (capped (8 * (r - 1))) buffer_words)) e ∙ sym (not_zero (head_word m 3) x (ask_tip k m) (λ w. z (e ∙ w)))
+
+-- WHAT OTHER TASKS DO WITH THE LAST COMMIT
+pub against_else : (sum : Sum) (k : Control) (m : List ℕ) (t : Task) → (t ≡ Status → ⊥) → (t ≡ Note → ⊥) → asked k m Done ≡ against sum k m t
+against_else sum k m Nothing f g = refl
+against_else sum k m Write f g = refl
+against_else sum k m Drop f g = refl
+against_else sum k m Read f g = refl
+against_else sum k m Status f g = absurd (f refl)
+against_else sum k m Leave f g = refl
+against_else sum k m Note f g = absurd (g refl)
+against_else sum k m Log f g = refl
+against_else sum k m View f g = refl
+
+pub under_tip_else : (sum : Sum) (k : Control) (m : List ℕ) (root weight : ℕ) (t : Task) → (t ≡ Status → ⊥) → (t ≡ Note → ⊥) → (t ≡ Leave → ⊥) → (t ≡ View → ⊥) → asked k m Done ≡ under_tip sum k m root weight t
+under_tip_else sum k m root weight Nothing f g h i = refl
+under_tip_else sum k m root weight Write f g h i = refl
+under_tip_else sum k m root weight Drop f g h i = refl
+under_tip_else sum k m root weight Read f g h i = refl
+under_tip_else sum k m root weight Status f g h i = absurd (f refl)
+under_tip_else sum k m root weight Leave f g h i = absurd (h refl)
+under_tip_else sum k m root weight Note f g h i = absurd (g refl)
+under_tip_else sum k m root weight Log f g h i = refl
+under_tip_else sum k m root weight View f g h i = absurd (i refl)
+
 -- THE TASK BEGINS
-pub started_loads : (k : Control) (m : List ℕ) (t : Task) → (t ≡ Nothing → ⊥) → (t ≡ Leave → ⊥) → load k m ≡ started k m t
-started_loads k m Nothing f g = absurd (f refl)
-started_loads k m Write f g = refl
-started_loads k m Drop f g = refl
-started_loads k m Read f g = refl
-started_loads k m Status f g = refl
-started_loads k m Leave f g = absurd (g refl)
-
--- the tree in work is asked for, if there is one
-pub no_tree : (k : Control) (m m₁ : List ℕ) (root : ℕ) (a : Asked Control) → root ≡ head_word m 2 → root ≡ 0 → m₁ ≡ emptied row_at m → a ≡ loaded k m₁ k.task → a ≡ load k m
-no_tree k m m₁ root a e z n is =
-    is ∙ ap (λ x. loaded k x k.task) n ∙ sym (pick_true (eqb (head_word m 2) 0) _ _ (eq-eqb (head_word m 2) 0 (sym e ∙ z)))
-
-pub some_tree : (k : Control) (m : List ℕ) (root at : ℕ) → root ≡ head_word m 2 → (root ≡ 0 → ⊥) → at ≡ min ((root - 1) * 8) 18446744073709551615 →
-    asked (at_phase Loading k) m (Object at buffer_words) ≡ load k m
-some_tree k m root at e z n =
-    ap (λ x. asked (at_phase Loading k) m (Object x buffer_words)) (eightfold (head_word m 2 - 1) (root - 1) at (ap (λ x. x - 1) e) n)
-    ∙ sym (pick_false (eqb (head_word m 2) 0) _ _ (false_unless (eqb (head_word m 2) 0) (λ t. z (e ∙ eqb-true (head_word m 2) 0 t))))
+pub started_loads : (sum : Sum) (k : Control) (m : List ℕ) (t : Task) (root : ℕ) (a : Asked Control) → (t ≡ Nothing → ⊥) → (t ≡ Leave → ⊥) → (t ≡ Log → ⊥) → (t ≡ View → ⊥) →
+    root ≡ head_word m 2 → a ≡ load sum k m root → a ≡ started sum k m t
+started_loads sum k m Nothing root a n l o v r is = absurd (n refl)
+started_loads sum k m Write root a n l o v r is = is ∙ ap (load sum k m) r
+started_loads sum k m Drop root a n l o v r is = is ∙ ap (load sum k m) r
+started_loads sum k m Read root a n l o v r is = is ∙ ap (load sum k m) r
+started_loads sum k m Status root a n l o v r is = is ∙ ap (load sum k m) r
+started_loads sum k m Leave root a n l o v r is = absurd (l refl)
+started_loads sum k m Note root a n l o v r is = is ∙ ap (load sum k m) r
+started_loads sum k m Log root a n l o v r is = absurd (o refl)
+started_loads sum k m View root a n l o v r is = absurd (v refl)
 
 -- it sweeps first, or goes on
-pub sweep_comes : (k : Control) (m : List ℕ) (a : Bool) (r : Asked Control) → a ≡ (lays k.task && tight k.pages m) → a ≡ true →
-    r ≡ swung (sweeping k) (again k) (sweep_begun k.sweep m) → r ≡ recalled k m
-sweep_comes k m a r e t is = is ∙ sym (pick_true (lays k.task && tight k.pages m) _ _ (sym e ∙ t))
+pub sweep_comes : (sum : Sum) (k : Control) (m : List ℕ) (a : Bool) (r : Asked Control) → a ≡ (lays k.task && tight k.pages m) → a ≡ true →
+    r ≡ swung (sweeping k) (again k) (sweep_begun k.sweep m) → r ≡ recalled sum k m
+sweep_comes sum k m a r e t is = is ∙ sym (pick_true (lays k.task && tight k.pages m) _ _ (sym e ∙ t))
 
-pub goes_on : (k : Control) (m : List ℕ) (a : Bool) (r : Asked Control) → a ≡ (lays k.task && tight k.pages m) → a ≡ false → r ≡ started k m k.task → r ≡ recalled k m
-goes_on k m a r e f is = is ∙ sym (pick_false (lays k.task && tight k.pages m) _ _ (sym e ∙ f))
+pub goes_on : (sum : Sum) (k : Control) (m : List ℕ) (a : Bool) (r : Asked Control) → a ≡ (lays k.task && tight k.pages m) → a ≡ false → r ≡ started sum k m k.task → r ≡ recalled sum k m
+goes_on sum k m a r e f is = is ∙ sym (pick_false (lays k.task && tight k.pages m) _ _ (sym e ∙ f))
 
 -- a memory that is long enough goes on by its phase
-pub resumes_in : (k : Control) (m : List ℕ) (p : Phase) → desk_end ≤ length m → k.phase ≡ p → resumed k m p ≡ control_resumes k m
-resumes_in k m p h e =
-    ap (resumed k m) (sym e) ∙ sym (pick_false (ltb (length m) desk_end) (asked k m (Refuse 2)) (resumed k m k.phase) (le-ltb (length m) desk_end h))
+pub resumes_in : (sum : Sum) (k : Control) (m : List ℕ) (p : Phase) → desk_end ≤ length m → k.phase ≡ p → resumed sum k m p ≡ control_resumes sum k m
+resumes_in sum k m p h e =
+    ap (resumed sum k m) (sym e) ∙ sym (pick_false (ltb (length m) desk_end) (asked k m (Refuse 2)) (resumed sum k m k.phase) (le-ltb (length m) desk_end h))
 
 -- WHAT IS SAID: a command that it does not know
 pub not_known : (sum : Sum) (k : Control) (m : List ℕ) (c : Command) → ((p b : Bor (List ℕ)) → c ≡ WriteFile p b → ⊥) → ((p : Bor (List ℕ)) → c ≡ DropFile p → ⊥) →
-    ((p : Bor (List ℕ)) → c ≡ ReadFile p → ⊥) → (c ≡ StatusSaid → ⊥) → (c ≡ LeaveSaid → ⊥) → asked k m (Refuse 2) ≡ said_of sum k m (meant c)
-not_known sum k m (WriteFile p b) w d r s l = absurd (w p b refl)
-not_known sum k m (DropFile p) w d r s l = absurd (d p refl)
-not_known sum k m (Commit s' x) w d r s l = refl
-not_known sum k m (Branch x) w d r s l = refl
-not_known sum k m (GoTo x) w d r s l = refl
-not_known sum k m History w d r s l = refl
-not_known sum k m (ShowFile x y) w d r s l = refl
-not_known sum k m StatusSaid w d r s l = absurd (s refl)
-not_known sum k m (ReadFile p) w d r s l = absurd (r p refl)
-not_known sum k m (Join x) w d r s l = refl
-not_known sum k m (Settle x) w d r s l = refl
-not_known sum k m LeaveSaid w d r s l = absurd (l refl)
-not_known sum k m (MoveOnto x) w d r s l = refl
-not_known sum k m (Carry x) w d r s l = refl
-not_known sum k m (Forget x) w d r s l = refl
-not_known sum k m (Tag x) w d r s l = refl
-not_known sum k m (Who x) w d r s l = refl
-not_known sum k m Sweep w d r s l = refl
-not_known sum k m (Fetch x) w d r s l = refl
+    ((s : ℕ) (b : Bor (List ℕ)) → c ≡ Commit s b → ⊥) → (c ≡ History → ⊥) → ((n p : Bor (List ℕ)) → c ≡ ShowFile n p → ⊥) → ((p : Bor (List ℕ)) → c ≡ ReadFile p → ⊥) →
+    (c ≡ StatusSaid → ⊥) → (c ≡ LeaveSaid → ⊥) → asked k m (Refuse 2) ≡ said_of sum k m (meant c)
+not_known sum k m (WriteFile p b) w d n h v r s l = absurd (w p b refl)
+not_known sum k m (DropFile p) w d n h v r s l = absurd (d p refl)
+not_known sum k m (Commit x b) w d n h v r s l = absurd (n x b refl)
+not_known sum k m (Branch x) w d n h v r s l = refl
+not_known sum k m (GoTo x) w d n h v r s l = refl
+not_known sum k m History w d n h v r s l = absurd (h refl)
+not_known sum k m (ShowFile x p) w d n h v r s l = absurd (v x p refl)
+not_known sum k m StatusSaid w d n h v r s l = absurd (s refl)
+not_known sum k m (ReadFile p) w d n h v r s l = absurd (r p refl)
+not_known sum k m (Join x) w d n h v r s l = refl
+not_known sum k m (Settle x) w d n h v r s l = refl
+not_known sum k m LeaveSaid w d n h v r s l = absurd (l refl)
+not_known sum k m (MoveOnto x) w d n h v r s l = refl
+not_known sum k m (Carry x) w d n h v r s l = refl
+not_known sum k m (Forget x) w d n h v r s l = refl
+not_known sum k m (Tag x) w d n h v r s l = refl
+not_known sum k m (Who x) w d n h v r s l = refl
+not_known sum k m Sweep w d n h v r s l = refl
+not_known sum k m (Fetch x) w d n h v r s l = refl
 
 -- a file that is said
 pub write_heard : (sum : Sum) (k k₁ : Control) (m m₁ m₂ p b : List ℕ) (s : Key) (q : Request) → m₁ ≡ path_put p m → m₂ ≡ bytes_put bytes_at b m₁ → s ≡ sum_key (sum b) →

@@ -5,7 +5,7 @@ use lib.Seq.{take-append-add}
 use Rattle.pages.specs.Engine.{bulk_cells}
 use Rattle.pages.specs.Words.{over}
 use Rattle.pages.proofs.WordLaws.{length_over}
-use Rattle.objects.specs.Plan.{head_at, map_at, counts_at}
+use Rattle.objects.specs.Plan.{head_at, map_at, plan_end}
 use Rattle.objects.specs.Marking.{Keeps}
 use Rattle.objects.proofs.PartLaws.{parts_stay}
 use Rattle.objects.proofs.PlanLaws.{over_drop}
@@ -62,7 +62,7 @@ desk_front h ws d m new le k =
       said = over_drop 0 path_at new m (omega arith) (omega arith) ∙ k.said;
     }
 
-pub desk_map : (h ws d m new : List ℕ) (g : ℕ) → map_at ≤ g → g + length new ≤ counts_at → Desk h ws d m → Desk h ws d (over g new m)
+pub desk_map : (h ws d m new : List ℕ) (g : ℕ) → map_at ≤ g → g + length new ≤ plan_end → Desk h ws d m → Desk h ws d (over g new m)
 desk_map h ws d m new g from to k =
     let long : length m ≡ bulk_cells = k.long in
     record {

@@ -12,8 +12,13 @@ pub mod Sheets
 pub mod ControlBounds
 pub mod ControlSteps
 pub mod ControlLaws
+pub mod SpelledLaws
+pub mod SpellLaws
+pub mod Versions
 pub mod ShelfLaws
 pub mod NewShelf
 pub mod SurveyLaws
-pub mod Commands
+pub mod Standing
+pub mod LogCommands
+pub mod NoteCommands
 pub mod Keeping

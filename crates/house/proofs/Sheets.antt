@@ -1,5 +1,5 @@
 -- How the house that keeps sheets in work goes on its tape, phase by phase, whatever is asked of stops and of the end. Assumes nothing.
-use Rattle.std.proofs.Common.{◌≡◌, ℕ, zero, suc, ◌+◌, ◌-◌, ◌*◌, ◌/◌, ◌<◌, ◌≤◌, min, true, false, ◌&&◌, eqb, ltb, leb, List, [], ◌∷◌, ◌++◌, length, get_or, take, drop, Some, None, Option, sym, refl, ap, ◌∙◌, subst, subst₂, ap₂, inl, inr, arith, append-nil, length-append, length-drop, length-take}
+use Rattle.std.proofs.Common.{◌≡◌, ℕ, zero, suc, ◌+◌, ◌-◌, ◌*◌, ◌/◌, ◌<◌, ◌≤◌, min, Bool, true, false, ◌&&◌, eqb, ◌⊎◌, ltb, leb, List, [], ◌∷◌, ◌++◌, length, get_or, take, drop, Some, None, Option, sym, refl, ap, ◌∙◌, subst, subst₂, ap₂, inl, inr, arith, append-nil, length-append, length-drop, length-take}
 use Rattle.std.proofs.lemmas.List.{take_at, length-take-le, take-append-le, take-take, take-append-drop, drop-append-le, drop-drop, get_or-drop, get_or_append_left, append_assoc}
 use Rattle.std.proofs.lemmas.Bool.{le-ltb, eq-eqb, ne_eqb, ltb-true, le-leb, leb-true, and_parts, and_from}
 use lib.Seq.{take-append-add}
@@ -16,7 +16,7 @@ use Rattle.pages.proofs.ListLaws.{pick_true, pick_false, pick_both}
 use Rattle.pages.proofs.WordLaws.{length_over, length_words, length_bytes_of, bytes_of_append, all_bytes_of}
 use Rattle.pages.proofs.BytesLaws.{all_bytes_take}
 use Rattle.objects.specs.Plan.{head_at, plan_end, rest_at}
-use Rattle.objects.specs.Heap.{Heap, Lives, Placed, units_at, heading_at}
+use Rattle.objects.specs.Heap.{Heap, Lives, Placed, units_at, heading_at, keyed}
 use Rattle.objects.specs.Marking.{key_words, walk, begun, sought, went_on, walked, Marked, Marks}
 use Rattle.objects.specs.declared.mark.Walk.{Walk}
 use Rattle.objects.proofs.MarkLaws.{marks}
@@ -31,7 +31,7 @@ use Rattle.objects.proofs.RoomLaws.{object_heading}
 use Rattle.trees.specs.Tree.{Tree}
 use Rattle.trees.specs.Row.{room, held, cut, entries_of, reference_of, references, put_key}
 use Rattle.trees.specs.RowOf.{RowOf}
-use Rattle.trees.specs.Packed.{files_in, spread_into, squeezed, squeeze_into, squeeze_answer, packed_all}
+use Rattle.trees.specs.Packed.{files_in, spread_fits, spread_into, squeezed, squeeze_into, squeeze_answer, packed_all}
 use Rattle.trees.specs.StoredPromises.{TreeObject}
 use Rattle.trees.proofs.ObjectLaws.{stored_objects}
 use Rattle.trees.proofs.StoredLaws.{length_squeezed}
@@ -46,12 +46,12 @@ use Rattle.trees.specs.declared.differences.Place.{Place}
 use Rattle.trees.specs.declared.differences.Place.TheVariants.{New, Changed, Gone}
 use Rattle.history.specs.Book.{Sum}
 use Rattle.commands.specs.Command.{a_text}
-use Rattle.house.specs.Control.{row_at, row_words, path_at, desk_end, row_of, with_row, emptied, head_word, at_phase, controlling, control_resumes, resumed, recalled, started, lays as lays_any, tight, sweeping, again, load, loaded, publish, new_head, pages_of, laid_from, laying, reference_at, squeezed_in, tree_put, lay_tree, named, file_in, lay_file, entry_weight, survey, survey_roots, surveyed, surveying, window_of, bytes_at as bytes_place, old_row_at, old_row_of, compare, compared, comparing, opened, file_came, sum_key}
-use Rattle.house.specs.Shelf.{bytes_at, FileAt, WorkAt, work_root, files_named}
+use Rattle.house.specs.Control.{against, load_old, published_by, with_old_row, kind_sought, row_at, row_words, path_at, desk_end, row_of, with_row, emptied, head_word, at_phase, controlling, control_resumes, resumed, recalled, started, lays as lays_any, tight, sweeping, again, load, loaded, publish, new_head, pages_of, laid_from, laying, reference_at, squeezed_in, tree_put, lay_tree, named, file_in, lay_file, entry_weight, survey, survey_roots, surveyed, surveying, window_of, bytes_at as bytes_place, old_row_at, old_row_of, compare, compared, comparing, opened, file_came, sum_key}
+use Rattle.house.specs.Shelf.{bytes_at, FileAt, TreeAt, WorkAt, work_root, tip_root, files_named}
 use Rattle.house.specs.declared.control.Control.{Control}
 use Rattle.house.specs.declared.control.Phase.{Phase}
-use Rattle.house.specs.declared.control.Phase.TheVariants.{Recalling, Loading, LayingFile, LayingTree, Publishing, Opening, Showing, Comparing}
-use Rattle.house.proofs.DeskLaws.{part_alike, rest_alike, Desk, desk_front, desk_head, desk_row, desk_row_front, desk_kept, row_long, head_word_is, path_key_is}
+use Rattle.house.specs.declared.control.Phase.TheVariants.{Recalling, Loading, LayingFile, LayingTree, Publishing, Opening, Showing, Comparing, LoadingOld}
+use Rattle.house.proofs.DeskLaws.{part_alike, rest_alike, part_front, Desk, desk_front, desk_head, desk_map, desk_row, desk_row_front, desk_kept, row_long, head_word_is, path_key_is}
 
 -- an object that stands in its place is as long as it says
 pub object_long : (t : List ℕ) (lo hi r : ℕ) → 8 * hi ≤ length t → Placed t lo hi r → length (object_at t r) ≡ size_in (heading_at t r)
@@ -64,16 +64,24 @@ pub text_parts : (b : List ℕ) → a_text b ≡ true → (length b < 65536) × 
 text_parts b e = (ltb-true (length b) 65536 (and_parts (ltb (length b) 65536) (all_bytes b) e).0, (and_parts (ltb (length b) 65536) (all_bytes b) e).1)
 
 -- bytes of a text have room behind the buffer
-stands_there : (bytes : ℕ) (m : List ℕ) → bytes < 65536 → length m ≡ bulk_cells → bytes_stand 65535 bytes bytes_place m ≡ true
+pub stands_there : (bytes : ℕ) (m : List ℕ) → bytes < 65536 → length m ≡ bulk_cells → bytes_stand 65535 bytes bytes_place m ≡ true
 stands_there bytes m short long =
     and_from (leb plan_end (length m)) (leb bytes 65535 && (leb rest_at bytes_place && leb (bytes_place + words_for bytes) (length m)))
     (le-leb plan_end (length m) (omega arith))
     (and_from (leb bytes 65535) (leb rest_at bytes_place && leb (bytes_place + words_for bytes) (length m)) (le-leb bytes 65535 (omega arith))
     (le-leb (bytes_place + words_for bytes) (length m) (omega arith)))
 
-seven_zeros : take 7 (zeros 29) ≡ zeros 7
+pub some_root : (r : ℕ) → 1 ≤ r → eqb r 0 ≡ false
+some_root r one = ne_eqb r 0 (λ z. omega arith)
+
+-- what the head names beside the tree in work: the tip
+tip_and_none : (h : List ℕ) → drop 4 h ≡ zeros 28 → length h ≡ 32 → take 7 (drop 3 h) ≡ tip_root h ∷ zeros 6
 unfolding zeros
-seven_zeros = refl
+tip_and_none [] e l = absurd (omega arith)
+tip_and_none (a ∷ []) e l = absurd (omega arith)
+tip_and_none (a ∷ b ∷ []) e l = absurd (omega arith)
+tip_and_none (a ∷ b ∷ c ∷ []) e l = absurd (omega arith)
+tip_and_none (a ∷ b ∷ c ∷ d ∷ r) e l = ap (λ x. d ∷ take 6 x) e
 
 -- what is shown of a difference
 path_fits : (k : List ℕ) → (length (path_of k) ≤ 64) × (all_bytes (path_of k) ≡ true)
@@ -181,34 +189,40 @@ squeezes_front ws m e l =
     none : length (squeezed ws) ≡ 0 + length (squeezed ws)
     none = omega arith
 
+-- the roots of a write: what the head names but for the tree in work, and the row
+pub row_roots : (h ws d m : List ℕ) → Desk h ws d m → drop 4 h ≡ zeros 28 → length h ≡ 32 → take 7 (drop 41155 m) ++ references (row_of m) ≡ (tip_root h ∷ zeros 6) ++ references ws
+row_roots h ws d m desk others hl =
+    ap₂ (λ x y. x ++ references y)
+    (sym (part_inside head_at 32 7 3 m (omega arith)) ∙ ap (λ x. take 7 (drop 3 x)) desk.head ∙ tip_and_none h others hl) desk.row
+
 module _ (sum : Sum) (n : ℕ) (Stop : List ℕ → List ℕ → Rows → Type 0) (End : Control → List ℕ → List ℕ → List ℕ → ℕ → Rows → ℕ → Type 0) where
   abbrev pub Well : Asked Control → List ℕ → List ℕ → ℕ → Rows → Type 0
   Well a h t laid ss = Does (controlling sum) n Stop End a h t laid ss
 
-  pub goes_on : (k : Control) (m h t : List ℕ) (laid : ℕ) (ss : Rows) → length m ≡ bulk_cells → Well (resumed k m k.phase) h t laid ss → Well (control_resumes k m) h t laid ss
+  pub goes_on : (k : Control) (m h t : List ℕ) (laid : ℕ) (ss : Rows) → length m ≡ bulk_cells → Well (resumed sum k m k.phase) h t laid ss → Well (control_resumes sum k m) h t laid ss
   goes_on k m h t laid ss l d =
-      subst (λ (x : Asked Control). Well x h t laid ss) (sym (pick_false (ltb (length m) desk_end) (asked k m (Refuse 2)) (resumed k m k.phase) (le-ltb (length m) desk_end (omega arith)))) d
+      subst (λ (x : Asked Control). Well x h t laid ss) (sym (pick_false (ltb (length m) desk_end) (asked k m (Refuse 2)) (resumed sum k m k.phase) (le-ltb (length m) desk_end (omega arith)))) d
 
   -- the head is recalled
   pub recalls_head : (k : Control) (h₀ ws d m h t : List ℕ) (laid : ℕ) (ss : Rows) → Desk h₀ ws d m →
-      ((m₁ : List ℕ) → Desk h ws d m₁ → Well (recalled (at_phase Recalling k) m₁) h t laid ss) → Well (asked (at_phase Recalling k) m Recall) h t laid ss
+      ((m₁ : List ℕ) → Desk h ws d m₁ → Well (recalled sum (at_phase Recalling k) m₁) h t laid ss) → Well (asked (at_phase Recalling k) m Recall) h t laid ss
   recalls_head k h₀ ws d m h t laid ss desk on =
       recalls (asked (at_phase Recalling k) m Recall) h t laid ss refl
       (λ hl hs.
       let front : Desk h₀ ws d (over 0 h m) = desk_front h₀ ws d m h (omega (arith, hl)) desk in
       goes_on (at_phase Recalling k) (over 0 h m) h t laid ss front.long
-      (subst (λ (x : List ℕ). Well (recalled (at_phase Recalling k) (over head_at x (over 0 h m))) h t laid ss) (sym (take_at h (drop (0 + length h) m) 32 hl))
+      (subst (λ (x : List ℕ). Well (recalled sum (at_phase Recalling k) (over head_at x (over 0 h m))) h t laid ss) (sym (take_at h (drop (0 + length h) m) 32 hl))
       (on (over head_at h (over 0 h m)) (desk_head h₀ h ws d (over 0 h m) hl front))))
 
   -- an object is asked for
   pub opens_object : (k : Control) (m h t : List ℕ) (laid r : ℕ) (ss : Rows) → length t ≡ 64 * laid → 64 * laid < 18446744073709551616 →
-      Placed t (8 * first_page h) (8 * laid) r → Well (control_resumes k (over 0 (object_at t r) m)) h t laid ss →
+      Placed t (8 * first_page h) (8 * laid) r → Well (control_resumes sum k (over 0 (object_at t r) m)) h t laid ss →
       Well (asked k m (Object (capped (8 * (r - 1))) buffer_words)) h t laid ss
   unfolding object_at
   opens_object k m h t laid r ss tl small_tape q on =
       subst (λ (a : ℕ). Does (controlling sum) n Stop End (asked k m (Object a buffer_words)) h t laid ss) (sym at_is)
       (opens (asked k m (Object (8 * (r - 1)) buffer_words)) h t laid ss (8 * (r - 1)) buffer_words refl (omega (arith, q.above)) (omega (arith, q.within, size_is))
-      (λ s. subst (λ (x : ℕ). Does (controlling sum) n Stop End (control_resumes k (over 0 (take x (drop (8 * (r - 1)) t)) m)) h t laid ss) (sym size_is) on))
+      (λ s. subst (λ (x : ℕ). Does (controlling sum) n Stop End (control_resumes sum k (over 0 (take x (drop (8 * (r - 1)) t)) m)) h t laid ss) (sym size_is) on))
     where
       size_is : wanted buffer_words (get_or t (8 * (r - 1)) 0) ≡ size_in (heading_at t r)
       size_is = omega (arith, q.whole, q.short)
@@ -221,9 +235,9 @@ module _ (sum : Sum) (n : ℕ) (Stop : List ℕ → List ℕ → Rows → Type 0
       Heap t (8 * first_page h) (8 * last_page h) (roots_of h) → Lives t (roots_of h) ls →
       last_page h + (added_up (units_at t) ls + 7) / 8 ≤ first_page h + n → 64 * (last_page h + (added_up (units_at t) ls + 7) / 8 + 1) < 18446744073709551616 →
       ((t₁ h₁ : List ℕ) → Swept t h t₁ h₁ ls → Stop h₁ t₁ ss) →
-      (lays_any k.task && tight k.pages m ≡ false → Well (started k m k.task) h t (last_page h) ss) →
-      ((t₁ h₁ m₁ : List ℕ) (v : Sweep) → Swept t h t₁ h₁ ls → Desk h₁ ws d m₁ → Well (recalled (at_phase Recalling (sweeping k v)) m₁) h₁ t₁ (last_page h₁) ss) →
-      Well (recalled k m) h t (last_page h) ss
+      (lays_any k.task && tight k.pages m ≡ false → Well (started sum k m k.task) h t (last_page h) ss) →
+      ((t₁ h₁ m₁ : List ℕ) (v : Sweep) → Swept t h t₁ h₁ ls → Desk h₁ ws d m₁ → Well (recalled sum (at_phase Recalling (sweeping k v)) m₁) h₁ t₁ (last_page h₁) ss) →
+      Well (recalled sum k m) h t (last_page h) ss
   unfolding Sweeps
   begins k ws d m h t ss ls few desk win heap lives fits bound stop now then =
       pick_both (λ x. Well x h t (last_page h) ss) (lays_any k.task && tight k.pages m) _ _
@@ -233,7 +247,7 @@ module _ (sum : Sum) (n : ℕ) (Stop : List ℕ → List ℕ → Rows → Type 0
       (λ m₂ desk₂. then t₁ h₁ m₂ v swept desk₂)))
       now
     where
-      sweeps_in : (v : Sweep) (m : List ℕ) → length m ≡ bulk_cells → control_resumes (sweeping k v) m ≡ swung (sweeping k) (again k) (sweep_went_on v m)
+      sweeps_in : (v : Sweep) (m : List ℕ) → length m ≡ bulk_cells → control_resumes sum (sweeping k v) m ≡ swung (sweeping k) (again k) (sweep_went_on v m)
       sweeps_in v m l = pick_false (ltb (length m) desk_end) _ _ (le-ltb (length m) desk_end (omega arith))
 
       again_desk : (m₁ : List ℕ) → length m₁ ≡ bulk_cells → ((i : ℕ) → plan_end ≤ i → get_or m₁ i 0 ≡ get_or m i 0) → Desk (take 32 (drop head_at m₁)) ws d m₁
@@ -245,82 +259,117 @@ module _ (sum : Sum) (n : ℕ) (Stop : List ℕ → List ℕ → Rows → Type 0
             said = rest_alike path_at m₁ m (long ∙ sym desk.long) (λ i a. behind i (omega arith)) ∙ desk.said;
           }
 
-  -- the tree in work is loaded
-  pub loads_tree : (k : Control) (ws d m h t : List ℕ) (laid : ℕ) (ss : Rows) (tree : Tree) → Desk h ws d m → length t ≡ 64 * laid →
-      64 * laid < 18446744073709551616 → WorkAt t (work_root h) tree →
-      (1 ≤ work_root h → Placed t (8 * first_page h) (8 * laid) (work_root h)) → length tree ≤ 4096 →
-      ((p : Phase) (ws₁ m₁ : List ℕ) → Desk h ws₁ d m₁ → RowOf (bytes_at t) ws₁ tree → references ws₁ ≡ files_named t (work_root h) → Well (loaded (at_phase p k) m₁ k.task) h t laid ss) →
-      Well (load k m) h t laid ss
-  unfolding EmptyRight
-  loads_tree k ws d m h t laid ss tree desk tl small_tape (inl (none, empty)) placed few on =
-      subst (λ (x : Asked Control). Does (controlling sum) n Stop End x h t laid ss)
-      (sym (pick_true (eqb (head_word m 2) 0) _ _ (eq-eqb (head_word m 2) 0 (head_word_is h ws d m 2 (omega arith) desk ∙ none))))
-      (on k.phase (over 0 (0 ∷ 0 ∷ []) ws) (emptied row_at m) (desk_row_front h ws d m (0 ∷ 0 ∷ []) (omega arith) desk)
-      (subst (RowOf (bytes_at t) (over 0 (0 ∷ 0 ∷ []) ws)) (sym empty) (empty_right (bytes_at t) (over 0 (0 ∷ 0 ∷ []) ws) (omega arith) refl refl))
-      (empty_names (drop (0 + 2) ws) ∙ sym (pick_true (eqb (work_root h) 0) [] (references_of (object_at t (work_root h))) (eq-eqb (work_root h) 0 none))))
-  loads_tree k ws d m h t laid ss tree desk tl small_tape (inr kept) placed few on =
-      subst (λ (x : Asked Control). Does (controlling sum) n Stop End x h t laid ss)
-      (sym (pick_false (eqb (head_word m 2) 0) _ _ (ne_eqb (head_word m 2) 0 (λ z. omega (arith, kept.one, word)))))
-      (subst (λ (x : ℕ). Does (controlling sum) n Stop End (asked (at_phase Loading k) m (Object (capped (8 * (x - 1))) buffer_words)) h t laid ss) (sym word)
-      (opens_object (at_phase Loading k) m h t laid r ss tl small_tape q
-      (goes_on (at_phase Loading k) m₁ h t laid ss desk₁.long
-      (on Loading (spread_into (take buffer_words m₁) (row_of m₁)) (with_row (spread_into (take buffer_words m₁) (row_of m₁)) m₁)
-      (desk_row h ws (spread_into (take buffer_words m₁) (row_of m₁)) d m₁ (length_spread_into (take buffer_words m₁) (row_of m₁) ∙ ap length desk₁.row ∙ row_long h ws d m₁ desk₁) desk₁)
-      (subst (λ (x : List ℕ). RowOf (bytes_at t) (spread_into x (row_of m₁)) tree) (sym front) spread) names))))
-    where
-      r : ℕ
-      r = work_root h
-
-      word : head_word m 2 ≡ r
-      word = head_word_is h ws d m 2 (omega arith) desk
-
-      q : Placed t (8 * first_page h) (8 * laid) (work_root h)
+  -- a tree is loaded, into its row
+  module _ (k : Control) (ws d m h t : List ℕ) (laid root : ℕ) (ss : Rows) (tree : Tree) (desk : Desk h ws d m) (tl : length t ≡ 64 * laid)
+      (small_tape : 64 * laid < 18446744073709551616) (work : WorkAt sum t root tree) (placed : 1 ≤ root → Placed t (8 * first_page h) (8 * laid) root)
+      (few : length tree ≤ 4096) where
+    -- what comes of an object: whatever lies in a row of the house's length, the tree is spread into it
+    module _ (kept : TreeAt sum t root tree) where
+      q : Placed t (8 * first_page h) (8 * laid) root
       q = placed kept.one
 
-      o : List ℕ
-      o = object_at t (work_root h)
+      abbrev o : List ℕ
+      o = object_at t root
 
-      m₁ : List ℕ
-      m₁ = over 0 (object_at t (work_root h)) m
+      abbrev m₁ : List ℕ
+      m₁ = over 0 (object_at t root) m
 
-      o_long : length (object_at t (work_root h)) ≡ size_in (heading_at t (work_root h))
-      o_long = object_long t (8 * first_page h) (8 * laid) (work_root h) (omega (arith, tl)) q
+      o_long : length (object_at t root) ≡ size_in (heading_at t root)
+      o_long = object_long t (8 * first_page h) (8 * laid) root (omega (arith, tl)) q
 
-      desk₁ : Desk h ws d (over 0 (object_at t (work_root h)) m)
-      desk₁ = desk_front h ws d m (object_at t (work_root h)) (omega (arith, o_long, q.short)) desk
+      desk₁ : Desk h ws d (over 0 (object_at t root) m)
+      desk₁ = desk_front h ws d m (object_at t root) (omega (arith, o_long, q.short)) desk
 
-      z : List ℕ
-      z = take (buffer_words - length (object_at t (work_root h))) (drop (0 + length (object_at t (work_root h))) m)
+      abbrev z : List ℕ
+      z = take (buffer_words - length (object_at t root)) (drop (0 + length (object_at t root)) m)
 
-      e : buffer_words ≡ length (object_at t (work_root h)) + (buffer_words - length (object_at t (work_root h)))
+      e : buffer_words ≡ length (object_at t root) + (buffer_words - length (object_at t root))
       e = omega (arith, o_long, q.short)
 
-      front : take buffer_words (over 0 (object_at t (work_root h)) m) ≡ object_at t (work_root h) ++ take (buffer_words - length (object_at t (work_root h))) (drop (0 + length (object_at t (work_root h))) m)
+      front : take buffer_words (over 0 (object_at t root) m) ≡ object_at t root ++ take (buffer_words - length (object_at t root)) (drop (0 + length (object_at t root)) m)
       front =
-          ap (λ i. take i (object_at t (work_root h) ++ drop (0 + length (object_at t (work_root h))) m)) e
-          ∙ take-append-add (object_at t (work_root h)) (drop (0 + length (object_at t (work_root h))) m) (buffer_words - length (object_at t (work_root h)))
+          ap (λ i. take i (object_at t root ++ drop (0 + length (object_at t root)) m)) e
+          ∙ take-append-add (object_at t root) (drop (0 + length (object_at t root)) m) (buffer_words - length (object_at t root))
 
-      row_is_long : length (row_of (over 0 (object_at t (work_root h)) m)) ≡ row_words
-      row_is_long = ap length desk₁.row ∙ row_long h ws d m₁ desk₁
-
-      spread : RowOf (bytes_at t) (spread_into (object_at t (work_root h) ++ take (buffer_words - length (object_at t (work_root h))) (drop (0 + length (object_at t (work_root h))) m)) (row_of (over 0 (object_at t (work_root h)) m))) tree
-      spread = (kept.spreads z (row_of m₁) (row_two (row_of m₁) row_is_long) (subst (λ i. length tree ≤ i) (sym (row_room (row_of m₁) row_is_long)) few)).1
-
-      names : references (spread_into (take buffer_words m₁) (row_of m₁)) ≡ files_named t (work_root h)
-      names =
-          ap (λ x. references (spread_into x (row_of m₁))) front ∙ spread_references (o ++ z) (row_of m₁) whole (kept.spreads z (row_of m₁) (row_two (row_of m₁) row_is_long) (subst (λ i. length tree ≤ i) (sym (row_room (row_of m₁) row_is_long)) few)).0
-          ∙ first_names o z long_enough ∙ sym (pick_false (eqb (work_root h) 0) [] (references_of (object_at t (work_root h))) (ne_eqb (work_root h) 0 (λ e. omega (arith, kept.one))))
+      spread : (rs : List ℕ) → length rs ≡ row_words →
+          RowOf (bytes_at t) (spread_into (take buffer_words (over 0 (object_at t root) m)) rs) tree × (references (spread_into (take buffer_words (over 0 (object_at t root) m)) rs) ≡ files_named t root)
+      spread rs rl = (subst (λ (x : List ℕ). RowOf (bytes_at t) (spread_into x rs) tree) (sym front) (fits.1), names)
         where
-          first : get_or (object_at t (work_root h)) 0 0 ≡ heading_at t (work_root h)
-          first = object_heading t (work_root h) (omega (arith, q.whole))
+          fits : (spread_fits (object_at t root ++ z) rs ≡ true) × RowOf (bytes_at t) (spread_into (object_at t root ++ z) rs) tree
+          fits = kept.spreads z rs (row_two rs rl) (subst (λ i. length tree ≤ i) (sym (row_room rs rl)) few)
 
-          long_enough : 2 + references_in (get_or (object_at t (work_root h)) 0 0) ≤ length (object_at t (work_root h))
+          first : get_or (object_at t root) 0 0 ≡ heading_at t root
+          first = object_heading t root (omega (arith, q.whole))
+
+          long_enough : 2 + references_in (get_or (object_at t root) 0 0) ≤ length (object_at t root)
           long_enough = subst₂ (λ x y. 2 + references_in x ≤ y) (sym first) (sym o_long) q.whole
 
-          whole : 2 + files_in (o ++ z) ≤ length (o ++ z)
+          whole : 2 + files_in (object_at t root ++ z) ≤ length (object_at t root ++ z)
           whole =
               let e : get_or (o ++ z) 0 0 ≡ get_or o 0 0 = get_or_append_left o z 0 0 (omega (arith, long_enough)) in
               subst (λ x. 2 + references_in x ≤ length (o ++ z)) (sym e) (omega (arith, long_enough, length-append o z))
+
+          names : references (spread_into (take buffer_words (over 0 (object_at t root) m)) rs) ≡ files_named t root
+          names =
+              ap (λ x. references (spread_into x rs)) front ∙ spread_references (object_at t root ++ z) rs whole fits.0
+              ∙ first_names (object_at t root) z long_enough ∙ sym (pick_false (eqb root 0) [] (references_of (object_at t root)) (ne_eqb root 0 (λ e. omega (arith, kept.one))))
+
+    -- the empty one
+    empty_row_is : (rs : List ℕ) → length rs ≡ row_words → root ≡ 0 → tree ≡ [] → RowOf (bytes_at t) (over 0 (0 ∷ 0 ∷ []) rs) tree × (references (over 0 (0 ∷ 0 ∷ []) rs) ≡ files_named t root)
+    unfolding EmptyRight
+    empty_row_is rs rl none empty = (
+      subst (RowOf (bytes_at t) (over 0 (0 ∷ 0 ∷ []) rs)) (sym empty) (empty_right (bytes_at t) (over 0 (0 ∷ 0 ∷ []) rs) (omega arith) refl refl),
+      empty_names (drop (0 + 2) rs) ∙ sym (pick_true (eqb root 0) [] (references_of (object_at t root)) (eq-eqb root 0 none)),
+    )
+
+    pub loads_tree : ((p : Phase) (ws₁ m₁ : List ℕ) → Desk h ws₁ d m₁ → RowOf (bytes_at t) ws₁ tree → references ws₁ ≡ files_named t root → Well (loaded sum (at_phase p k) m₁ k.task) h t laid ss) →
+        Well (load sum k m root) h t laid ss
+    loads_tree on = go work
+      where
+        rl : length (row_of m) ≡ row_words
+        rl = ap length desk.row ∙ row_long h ws d m desk
+
+        go : WorkAt sum t root tree → Well (load sum k m root) h t laid ss
+        go (inl (none, empty)) =
+            let r = empty_row_is ws (row_long h ws d m desk) none empty in
+            subst (λ (x : Asked Control). Well x h t laid ss) (sym (pick_true (eqb root 0) _ _ (eq-eqb root 0 none)))
+            (on k.phase (over 0 (0 ∷ 0 ∷ []) ws) (emptied row_at m) (desk_row_front h ws d m (0 ∷ 0 ∷ []) (omega arith) desk) r.0 r.1)
+        go (inr kept) =
+            let y : length (row_of (m₁ kept)) ≡ row_words = ap length (desk₁ kept).row ∙ row_long h ws d (m₁ kept) (desk₁ kept) in
+            let r = spread kept (row_of (m₁ kept)) y in
+            subst (λ (x : Asked Control). Well x h t laid ss) (sym (pick_false (eqb root 0) _ _ (some_root root kept.one)))
+            (opens_object (at_phase Loading k) m h t laid root ss tl small_tape (q kept)
+            (goes_on (at_phase Loading k) (m₁ kept) h t laid ss (desk₁ kept).long
+            (on Loading (spread_into (take buffer_words (m₁ kept)) (row_of (m₁ kept))) (with_row (spread_into (take buffer_words (m₁ kept)) (row_of (m₁ kept))) (m₁ kept))
+            (desk_row h ws (spread_into (take buffer_words (m₁ kept)) (row_of (m₁ kept))) d (m₁ kept) (length_spread_into (take buffer_words (m₁ kept)) (row_of (m₁ kept)) ∙ y) (desk₁ kept))
+            r.0 r.1)))
+
+    -- or into the row of what is compared to
+    pub loads_old : ((p : Phase) (os m₁ : List ℕ) → Desk h ws d m₁ → old_row_of m₁ ≡ os → RowOf (bytes_at t) os tree → references os ≡ files_named t root →
+        Well (against sum (at_phase p k) m₁ k.task) h t laid ss) → Well (load_old sum k m root) h t laid ss
+    loads_old on = go work
+      where
+        old_long : (x : List ℕ) → Desk h ws d x → length (old_row_of x) ≡ row_words
+        old_long x dx = length-take-le row_words (drop old_row_at x) (omega (arith, dx.long, length-drop old_row_at x))
+
+        go : WorkAt sum t root tree → Well (load_old sum k m root) h t laid ss
+        go (inl (none, empty)) =
+            let r = empty_row_is (old_row_of m) (old_long m desk) none empty in
+            subst (λ (x : Asked Control). Well x h t laid ss) (sym (pick_true (eqb root 0) _ _ (eq-eqb root 0 none)))
+            (on k.phase (over 0 (0 ∷ 0 ∷ []) (old_row_of m)) (emptied old_row_at m) (desk_map h ws d m (0 ∷ 0 ∷ []) old_row_at (omega arith) (omega arith) desk)
+            (part_front old_row_at row_words (0 ∷ 0 ∷ []) m (omega arith) (omega (arith, desk.long))) r.0 r.1)
+        go (inr kept) =
+            let y : length (old_row_of (m₁ kept)) ≡ row_words = old_long (m₁ kept) (desk₁ kept) in
+            let r = spread kept (old_row_of (m₁ kept)) y in
+            let l : length (spread_into (take buffer_words (m₁ kept)) (old_row_of (m₁ kept))) ≡ row_words = length_spread_into (take buffer_words (m₁ kept)) (old_row_of (m₁ kept)) ∙ y in
+            subst (λ (x : Asked Control). Well x h t laid ss) (sym (pick_false (eqb root 0) _ _ (some_root root kept.one)))
+            (opens_object (at_phase LoadingOld k) m h t laid root ss tl small_tape (q kept)
+            (goes_on (at_phase LoadingOld k) (m₁ kept) h t laid ss (desk₁ kept).long
+            (on LoadingOld (spread_into (take buffer_words (m₁ kept)) (old_row_of (m₁ kept))) (with_old_row (spread_into (take buffer_words (m₁ kept)) (old_row_of (m₁ kept))) (m₁ kept))
+            (desk_map h ws d (m₁ kept) (spread_into (take buffer_words (m₁ kept)) (old_row_of (m₁ kept))) old_row_at (omega arith) (omega (arith, l)) (desk₁ kept))
+            (ap (λ i. take i (drop old_row_at (with_old_row (spread_into (take buffer_words (m₁ kept)) (old_row_of (m₁ kept))) (m₁ kept)))) (sym l)
+            ∙ parts_stay.here old_row_at (spread_into (take buffer_words (m₁ kept)) (old_row_of (m₁ kept))) (m₁ kept) (omega (arith, l, (desk₁ kept).long)))
+            r.0 r.1)))
 
   -- a file is asked for, and its bytes are shown
   pub shows_file : (k : Control) (ws d m h t : List ℕ) (laid r : ℕ) (ss : Rows) → Desk h ws d m → length t ≡ 64 * laid → 64 * laid < 18446744073709551616 →
@@ -393,48 +442,50 @@ module _ (sum : Sum) (n : ℕ) (Stop : List ℕ → List ℕ → Rows → Type 0
       shown : take (length (bytes_at t r)) (bytes_of (take 16384 m₂)) ≡ bytes_at t r
       shown = shown_bytes (bytes_at t r) m₁ ok.1 (omega (arith, short))
 
-  -- the new head is published, and that is all
-  pub publishes_head : (k : Control) (ws d m h t : List ℕ) (laid page root : ℕ) (ss : Rows) → Desk h ws d m → length h ≡ 32 → first_page h ≤ page → page ≤ laid →
-      Stop (first_page h ∷ page ∷ root ∷ drop 3 h) (published (first_page h ∷ page ∷ root ∷ drop 3 h) t) ss →
-      ((p : Phase) (m₁ : List ℕ) → End (at_phase p k) m₁ (first_page h ∷ page ∷ root ∷ drop 3 h) t laid ss 0) → Well (publish k m page root) h t laid ss
-  publishes_head k ws d m h t laid page root ss desk hl from to stop end =
+  -- the new head is published
+  pub publishes_head : (k : Control) (ws d m h t : List ℕ) (laid page root tip : ℕ) (ss : Rows) → Desk h ws d m → length h ≡ 32 → first_page h ≤ page → page ≤ laid →
+      Stop (first_page h ∷ page ∷ root ∷ tip ∷ drop 4 h) (published (first_page h ∷ page ∷ root ∷ tip ∷ drop 4 h) t) ss →
+      ((m₁ : List ℕ) → length m₁ ≡ bulk_cells → Well (published_by (at_phase Publishing k) m₁ k.task) (first_page h ∷ page ∷ root ∷ tip ∷ drop 4 h) t laid ss) → Well (publish k m page root tip) h t laid ss
+  publishes_head k ws d m h t laid page root tip ss desk hl from to stop on =
       publishes (asked (at_phase Publishing k) m₁ Publish) h t laid ss refl (omega (arith, first_is)) (omega (arith, first_is, last_is)) (omega (arith, last_is))
       (subst (λ (x : List ℕ). Stop x (published x t) ss) (sym front) stop)
-      (subst (λ (x : List ℕ). Well (control_resumes (at_phase Publishing k) m₁) x t laid ss) (sym front)
-      (goes_on (at_phase Publishing k) m₁ h₁ t laid ss (length_over 0 (new_head page root m) m (omega (arith, long, desk.long)) ∙ desk.long)
-      (finishes (asked (at_phase Publishing k) m₁ Done) h₁ t laid ss 0 refl (omega arith) (end Publishing m₁))))
+      (subst (λ (x : List ℕ). Well (control_resumes sum (at_phase Publishing k) m₁) x t laid ss) (sym front)
+      (goes_on (at_phase Publishing k) m₁ h₁ t laid ss m₁_long (on m₁ m₁_long)))
     where
       h₁ : List ℕ
-      h₁ = first_page h ∷ page ∷ root ∷ drop 3 h
+      h₁ = first_page h ∷ page ∷ root ∷ tip ∷ drop 4 h
 
       m₁ : List ℕ
-      m₁ = over 0 (new_head page root m) m
+      m₁ = over 0 (new_head page root tip m) m
 
-      is : new_head page root m ≡ first_page h ∷ page ∷ root ∷ drop 3 h
-      is = ap₂ (λ x ys. x ∷ page ∷ root ∷ drop 3 ys) (head_word_is h ws d m 0 (omega arith) desk) desk.head
+      is : new_head page root tip m ≡ first_page h ∷ page ∷ root ∷ tip ∷ drop 4 h
+      is = ap₂ (λ x ys. x ∷ page ∷ root ∷ tip ∷ drop 4 ys) (head_word_is h ws d m 0 (omega arith) desk) desk.head
 
-      long : length (new_head page root m) ≡ 32
-      long = ap length is ∙ omega (arith, length-drop 3 h, hl)
+      long : length (new_head page root tip m) ≡ 32
+      long = ap length is ∙ omega (arith, length-drop 4 h, hl)
 
-      front : take 32 (over 0 (new_head page root m) m) ≡ first_page h ∷ page ∷ root ∷ drop 3 h
-      front = take_at (new_head page root m) (drop (0 + length (new_head page root m)) m) 32 long ∙ is
+      m₁_long : length (over 0 (new_head page root tip m) m) ≡ bulk_cells
+      m₁_long = length_over 0 (new_head page root tip m) m (omega (arith, long, desk.long)) ∙ desk.long
 
-      first_is : first_page (take 32 (over 0 (new_head page root m) m)) ≡ first_page h
+      front : take 32 (over 0 (new_head page root tip m) m) ≡ first_page h ∷ page ∷ root ∷ tip ∷ drop 4 h
+      front = take_at (new_head page root tip m) (drop (0 + length (new_head page root tip m)) m) 32 long ∙ is
+
+      first_is : first_page (take 32 (over 0 (new_head page root tip m) m)) ≡ first_page h
       first_is = ap first_page front
 
-      last_is : last_page (take 32 (over 0 (new_head page root m) m)) ≡ page
+      last_is : last_page (take 32 (over 0 (new_head page root tip m) m)) ≡ page
       last_is = ap last_page front
 
   -- what stands in front of the buffer is laid on fresh pages
   pub lays_object : (p : Phase) (k : Control) (m h t o : List ℕ) (laid root : ℕ) (ss : Rows) → length m ≡ bulk_cells → 1 ≤ length o → length o ≤ 41088 →
       take (length o) m ≡ o → laid + pages_of (length o) ≤ first_page h + n → 64 * (laid + pages_of (length o)) < 18446744073709551616 →
       ((x : List ℕ) → length x ≡ 64 * pages_of (length o) → take (length o) x ≡ o →
-      Well (control_resumes (laying p (laid + pages_of (length o)) root k) m) h (t ++ x) (laid + pages_of (length o)) ss) →
+      Well (control_resumes sum (laying p (laid + pages_of (length o)) root k) m) h (t ++ x) (laid + pages_of (length o)) ss) →
       Well (laid_from p k m laid (length o) root) h t laid ss
   lays_object p k m h t o laid root ss long some most front fits small_tape on =
       lays (asked (laying p (capped (laid + pages_of (length o))) root k) m (Lay laid (pages_of (length o)))) h t laid ss (pages_of (length o)) refl (omega arith)
       (omega arith) fits small_tape
-      (subst (λ (x : ℕ). Well (control_resumes (laying p x root k) m) h (t ++ take (64 * pages_of (length o)) m) (laid + pages_of (length o)) ss) (sym page_is)
+      (subst (λ (x : ℕ). Well (control_resumes sum (laying p x root k) m) h (t ++ take (64 * pages_of (length o)) m) (laid + pages_of (length o)) ss) (sym page_is)
       (on (take (64 * pages_of (length o)) m) (length-take-le (64 * pages_of (length o)) m (omega (arith, long)))
       (take-take (length o) (64 * pages_of (length o)) m (omega arith) ∙ front)))
     where
@@ -443,14 +494,15 @@ module _ (sum : Sum) (n : ℕ) (Stop : List ℕ → List ℕ → Rows → Type 0
 
   -- the head under which a tree is published that was laid from a page on
   abbrev pub head_with : List ℕ → ℕ → List ℕ → List ℕ
-  head_with h page o = first_page h ∷ (page + pages_of (length o)) ∷ (8 * page + 1) ∷ drop 3 h
+  head_with h page o = first_page h ∷ (page + pages_of (length o)) ∷ (8 * page + 1) ∷ tip_root h ∷ drop 4 h
 
   -- the tree in work is laid and published
   pub lays_tree : (k : Control) (ws d m h t : List ℕ) (laid : ℕ) (ss : Rows) → Desk h ws d m → length h ≡ 32 → first_page h ≤ laid →
       laid + pages_of (length (squeezed ws)) ≤ first_page h + n → 64 * (laid + pages_of (length (squeezed ws))) < 18446744073709551616 →
       ((x : List ℕ) → length x ≡ 64 * pages_of (length (squeezed ws)) → take (length (squeezed ws)) x ≡ squeezed ws →
       Stop (head_with h laid (squeezed ws)) (published (head_with h laid (squeezed ws)) (t ++ x)) ss
-      × ((p : Phase) (page root : ℕ) (m₁ : List ℕ) → End (laying p page root k) m₁ (head_with h laid (squeezed ws)) (t ++ x) (laid + pages_of (length (squeezed ws))) ss 0)) →
+      × ((p : Phase) (page root : ℕ) (m₁ : List ℕ) → length m₁ ≡ bulk_cells →
+      Well (published_by (laying p page root k) m₁ k.task) (head_with h laid (squeezed ws)) (t ++ x) (laid + pages_of (length (squeezed ws))) ss)) →
       Well (lay_tree k m laid) h t laid ss
   lays_tree k ws d m h t laid ss desk hl from fits small_tape on =
       subst (λ (x : Option ℕ). Well (tree_put k m laid x) h t laid ss) (sym (squeeze_answers ws m desk.row desk.long))
@@ -460,8 +512,9 @@ module _ (sum : Sum) (n : ℕ) (Stop : List ℕ → List ℕ → Rows → Type 0
       small_tape
       (λ x xl front.
       goes_on k₁ m₁ h (t ++ x) (laid + pages_of (length o)) ss desk₁.long
-      (publishes_head k₁ ws d m₁ h (t ++ x) (laid + pages_of (length o)) (laid + pages_of (length o)) (8 * laid + 1) ss desk₁ hl (omega arith) (omega arith)
-      (on x xl front).0 (λ p m₂. (on x xl front).1 p (laid + pages_of (length o)) (8 * laid + 1) m₂))))))
+      (subst (λ (i : ℕ). Well (publish k₁ m₁ (laid + pages_of (length o)) (8 * laid + 1) i) h (t ++ x) (laid + pages_of (length o)) ss) (sym (head_word_is h ws d m₁ 3 (omega arith) desk₁))
+      (publishes_head k₁ ws d m₁ h (t ++ x) (laid + pages_of (length o)) (laid + pages_of (length o)) (8 * laid + 1) (tip_root h) ss desk₁ hl (omega arith) (omega arith)
+      (on x xl front).0 (λ m₂ l₂. (on x xl front).1 Publishing (laid + pages_of (length o)) (8 * laid + 1) m₂ l₂)))))))
     where
       o : List ℕ
       o = squeezed ws
@@ -565,23 +618,24 @@ module _ (sum : Sum) (n : ℕ) (Stop : List ℕ → List ℕ → Rows → Type 0
           ∙ part_before 0 (length o) row_at (put_key (take 9 d) (weight_said d) (8 * laid + 1) ws ++ drop (row_at + length (put_key (take 9 d) (weight_said d) (8 * laid + 1) ws)) m₁) m₁ (omega (arith, o_long, short)) (omega (arith, desk₁.long))
           ∙ take_at o (drop (0 + length o) m) (length o) refl
 
-  -- what will be live is surveyed
-  pub surveys : (k : Control) (ws d m h t : List ℕ) (ss : Rows) → Desk h ws d m → drop 3 h ≡ zeros 29 → length t ≡ 64 * last_page h →
+  -- what will be live is surveyed: the roots are those that the task names
+  pub surveys : (k : Control) (ws d m h t roots : List ℕ) (ss : Rows) → Desk h ws d m → survey_roots k.task m ≡ roots → (kind_sought k.task ≡ 1) ⊎ (kind_sought k.task ≡ 3) → length t ≡ 64 * last_page h →
       64 * last_page h < 18446744073709551616 → first_page h ≤ last_page h → last_page h - first_page h ≤ 1048576 →
-      Heap t (8 * first_page h) (8 * last_page h) (zeros 7 ++ references ws) →
-      ((w₁ : Walk) (m₁ : List ℕ) → Marked t (zeros 7 ++ references ws) (8 * first_page h) 1 (key_words k.sum) m w₁ m₁ → Desk h ws d m₁ →
+      Heap t (8 * first_page h) (8 * last_page h) roots →
+      ((w₁ : Walk) (m₁ : List ℕ) → Marked t roots (8 * first_page h) (kind_sought k.task) (key_words k.sum) m w₁ m₁ → Desk h ws d m₁ →
       Well (surveyed k w₁ m₁) h t (last_page h) ss) →
       Well (survey k m) h t (last_page h) ss
   unfolding Marks
-  surveys k ws d m h t ss desk others tl small_tape rises near heap on =
+  surveys k ws d m h t roots ss desk roots_are kinds tl small_tape rises near heap on =
       subst (λ (x : List ℕ). Well (walked (surveying k) (surveyed k) (sought (window_of k m) (begun (capped (8 * head_word m 0)) x m))) h t (last_page h) ss) (sym roots_are)
-      (subst₂ (λ (f b : ℕ). Well (walked (surveying k) (surveyed k) (sought (walk f b 0 1 k.sum 0) (begun f roots m))) h t (last_page h) ss) (sym first_is) (sym below_is)
-      (marks Stop End (controlling sum) n (surveying k) (surveyed k) walks h t (last_page h) ss roots m (8 * last_page h - 8 * first_page h) 1 k.sum tl small_tape (omega arith)
-      (omega (arith, near)) desk.long (heap_to heap) (inr refl)
+      (subst₂ (λ (f b : ℕ). Well (walked (surveying k) (surveyed k) (sought (walk f b 0 (kind_sought k.task) k.sum 0) (begun f roots m))) h t (last_page h) ss) (sym first_is) (sym below_is)
+      (marks Stop End (controlling sum) n (surveying k) (surveyed k) walks h t (last_page h) ss roots m (8 * last_page h - 8 * first_page h) (kind_sought k.task) k.sum tl small_tape (omega arith)
+      (omega (arith, near)) desk.long (heap_to heap) (inr (keyed_kind (kind_sought k.task) kinds))
       (λ w₁ m₁ marked. on w₁ m₁ marked (desk_kept h ws d m m₁ marked.keeps desk))))
     where
-      roots : List ℕ
-      roots = zeros 7 ++ references ws
+      keyed_kind : (i : ℕ) → (i ≡ 1) ⊎ (i ≡ 3) → keyed i ≡ true
+      keyed_kind i (inl e) = ap keyed e
+      keyed_kind i (inr e) = ap keyed e
 
       head_is : (i : ℕ) → i < 32 → head_word m i ≡ get_or h i 0
       head_is i lt = head_word_is h ws d m i lt desk
@@ -595,13 +649,12 @@ module _ (sum : Sum) (n : ℕ) (Stop : List ℕ → List ℕ → Rows → Type 0
       heap_to : Heap t (8 * first_page h) (8 * last_page h) roots → Heap t (8 * first_page h) (8 * first_page h + (8 * last_page h - 8 * first_page h)) roots
       heap_to g = let e : 8 * last_page h ≡ 8 * first_page h + (8 * last_page h - 8 * first_page h) = omega arith in subst (λ x. Heap t (8 * first_page h) x roots) e g
 
-      roots_are : survey_roots m ≡ zeros 7 ++ references ws
-      roots_are =
-          ap₂ (λ x y. x ++ references y)
-          (sym (part_inside head_at 32 7 3 m (omega arith)) ∙ ap (λ x. take 7 (drop 3 x)) desk.head ∙ ap (take 7) others ∙ seven_zeros) desk.row
-
-      walks : (w : Walk) (x : List ℕ) → length x ≡ bulk_cells → control_resumes (surveying k w) x ≡ walked (surveying k) (surveyed k) (went_on w x)
+      walks : (w : Walk) (x : List ℕ) → length x ≡ bulk_cells → control_resumes sum (surveying k w) x ≡ walked (surveying k) (surveyed k) (went_on w x)
       walks w x l = pick_false (ltb (length x) desk_end) _ _ (le-ltb (length x) desk_end (omega arith))
+
+  -- the roots of a commit: all that the head names
+  pub head_roots_in : (h ws d m : List ℕ) → Desk h ws d m → take 8 (drop 41154 m) ≡ roots_of h
+  head_roots_in h ws d m desk = sym (part_inside head_at 32 8 2 m (omega arith)) ∙ ap (λ x. take 8 (drop 2 x)) desk.head
 
   -- differences are shown one after another, until there are no more
   module _ (k : Control) (ws os d h t : List ℕ) (laid : ℕ) (all : Rows) (stop : (a b : Rows) → a ++ b ≡ all → Stop h (published h t) a)

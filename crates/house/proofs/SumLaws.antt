@@ -27,6 +27,12 @@ once_each f (x ∷ xs) o h = (
   once_each f xs o.1 (λ y z i j e. h y z (inr i) (inr j) e),
 )
 
+-- the same rows are in both
+pub any_both : (xs ys : List (List ℕ)) (b : List ℕ) → (In b xs → In b ys) → (In b ys → In b xs) → any (same b) xs ≡ any (same b) ys
+any_both xs ys b f g =
+    same_test (any (same b) xs) (any (same b) ys) (λ e. member_any same same_tells ys b (f (any_member same same_tells xs b e)))
+    (λ e. member_any same same_tells xs b (g (any_member same same_tells ys b e)))
+
 -- each different one once
 pub distinct_alike : (bs : List (List ℕ)) (b : List ℕ) → any (same b) (distinct bs) ≡ any (same b) bs
 distinct_alike bs b =

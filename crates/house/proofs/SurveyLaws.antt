@@ -1,6 +1,6 @@
 -- What a survey tells of a file that is to be written: whether it is live already, and how much is to be kept after it. Assumes nothing.
-use Rattle.std.proofs.Common.{◌≡◌, ℕ, zero, suc, ◌+◌, ◌≤◌, Bool, true, false, eqb, ◌⊎◌, List, [], ◌∷◌, ◌++◌, length, sym, refl, ap, ◌∙◌, subst, inl, inr, arith}
-use Rattle.std.proofs.lemmas.Bool.{le-leb, ne_eqb, eqb-false, and_parts, false≢true}
+use Rattle.std.proofs.Common.{◌≡◌, ℕ, zero, suc, ◌+◌, ◌*◌, ◌≤◌, Bool, true, false, eqb, ◌⊎◌, List, [], ◌∷◌, ◌++◌, length, sym, refl, ap, ◌∙◌, subst, inl, inr, arith}
+use Rattle.std.proofs.lemmas.Bool.{eqb-true, le-leb, ne_eqb, eqb-false, and_parts, false≢true}
 use Rattle.pages.specs.Lists.{pick, or, any, each, has, same, earlier, zeros}
 use Rattle.pages.specs.Bytes.{all_bytes}
 use Rattle.pages.specs.Words.{words, bytes_of}
@@ -15,11 +15,16 @@ use Rattle.trees.specs.RowOf.{proper, weight_of, RowOf}
 use Rattle.trees.specs.RowPromises.{PutsRight}
 use Rattle.trees.proofs.RowOfLaws.{puts_right}
 use Rattle.trees.proofs.RowParts.{row_stands, row_files, put_references}
-use Rattle.history.specs.Book.{Sum}
+use Rattle.history.specs.Book.{Book, Sum, nth}
 use Rattle.house.specs.Control.{sum_key}
-use Rattle.house.specs.Shelf.{bytes_at, FileAt, sheets_weight}
-use Rattle.house.proofs.ShelfLaws.{file_key, file_names, file_weighs}
-use Rattle.house.proofs.SumLaws.{files_weigh, files_weigh_more}
+use Rattle.history.specs.Laws.{Grown}
+use Rattle.pages.specs.Object.{kind_of}
+use Rattle.pages.specs.Lists.{every}
+use Rattle.objects.specs.Sweeping.{roots_of}
+use Rattle.commands.specs.Command.{a_text}
+use Rattle.house.specs.House.{weight}
+use Rattle.house.specs.Shelf.{bytes_at, FileAt, Stored, Shelf, keeping, work_root, tip_root, files_named}
+use Rattle.house.proofs.ShelfLaws.{file_key, file_kind, as_file, two_roots, numbered_is, numbered_in, numbered_few, Among, CommitThere, FileThere, commits_files, files_weight, commits_weight, stored_part, tip_live, file_live, work_file_at, tips_once, live_file_reached, live_weighs, live_weighs_more, keeping_weighs}
 use Rattle.house.proofs.Sheets.{sum_words}
 
 -- sums of 32 bytes are told apart by their words
@@ -44,40 +49,52 @@ has_put p b (f ∷ fs) =
     pick_both (λ (x : Tree). In b (each (λ f. f.bytes) x)) (same p f.path) _ _ (λ y. inl refl)
     (λ n. pick_both (λ (x : Tree). In b (each (λ f. f.bytes) x)) (earlier p f.path) _ _ (λ y. inl refl) (λ m. inr (has_put p b fs)))
 
--- THE SURVEY for a file: it goes over the row in which the file has no reference yet
-module _ (sum : Sum) (sums : (bs : List ℕ) → (length (sum bs) ≡ 32) × (all_bytes (sum bs) ≡ true)) (t ws p b : List ℕ) (tree : Tree)
-    (row : RowOf (bytes_at t) ws tree) (files : (r : ℕ) → has (references ws) r ≡ true → FileAt sum t r)
-    (once : (r s : ℕ) → has (references ws) r ≡ true → has (references ws) s ≡ true → bytes_at t r ≡ bytes_at t s → r ≡ s)
-    (good : proper p ≡ true) (few : length (put p b tree) ≤ room ws) (nine : length (key_of p) ≡ 9)
-    (apart : (x y : List ℕ) → In x (each (λ f. f.bytes) (put p b tree)) → In y (each (λ f. f.bytes) (put p b tree)) → sum x ≡ sum y → x ≡ y) where
+-- THE SURVEY for a file: it goes over the branch's commit and over the row in which the file has no reference yet
+module _ (sum : Sum) (sums : (bs : List ℕ) → (length (sum bs) ≡ 32) × (all_bytes (sum bs) ≡ true)) (pages : ℕ) (b : Book) (number : ℕ → ℕ) (h t : List ℕ) (tree : Tree) (tips : List ℕ)
+    (s : Shelf sum pages b number h t tree tips) (grown : Grown b) (texts : (k : ℕ) → a_text (nth b k).words ≡ true) (ws p bs : List ℕ) (row : RowOf (bytes_at t) ws tree)
+    (names : references ws ≡ files_named t (work_root h)) (good : proper p ≡ true) (few : length (put p bs tree) ≤ room ws) (nine : length (key_of p) ≡ 9)
+    (apart : (x y : List ℕ) → In x (commits_files b tips ++ each (λ f. f.bytes) (put p bs tree)) → In y (commits_files b tips ++ each (λ f. f.bytes) (put p bs tree)) → sum x ≡ sum y → x ≡ y) where
   -- the row, and what its references stand for
   abbrev pub unnamed : List ℕ
   unnamed = put_key (key_of p) (64 + length p) 0 ws
 
   abbrev pub stands : ℕ → List ℕ
-  stands r = pick (eqb r 0) b (bytes_at t r)
+  stands r = pick (eqb r 0) bs (bytes_at t r)
+
+  abbrev pub after : Tree
+  after = put p bs tree
+
+  abbrev pub extra : List (List ℕ)
+  extra = each (λ f. f.bytes) (put p bs tree)
+
+  pub files : (r : ℕ) → has (references ws) r ≡ true → FileAt sum t r
+  files r e = work_file_at sum pages b number h t tree tips s r (ap (λ rs. has rs r) (sym names) ∙ e)
+
+  pub lives : (r : ℕ) → has (references ws) r ≡ true → Live t (roots_of h) r
+  lives r e = file_live sum pages b number h t tree tips s r (ap (λ rs. has rs r) (sym names) ∙ e)
 
   stands_for : (r : ℕ) → 1 ≤ r → stands r ≡ bytes_at t r
-  stands_for r one = pick_false (eqb r 0) b (bytes_at t r) (ne_eqb r 0 (λ z. omega arith))
+  stands_for r one = pick_false (eqb r 0) bs (bytes_at t r) (ne_eqb r 0 (λ z. omega arith))
 
-  pub unnamed_stands : RowOf stands unnamed (put p b tree)
+  pub unnamed_stands : RowOf stands unnamed (put p bs tree)
   unnamed_stands =
-      put_row stands ws p b tree 0
+      put_row stands ws p bs tree 0
       (row_stands (bytes_at t) stands ws tree (λ r e. sym (stands_for r (files r e).one)) row) good refl few
 
-  abbrev pub roots : List ℕ
-  roots = zeros 7 ++ references unnamed
-
-  bytes_are : each stands (references unnamed) ≡ each (λ f. f.bytes) (put p b tree)
-  bytes_are = row_files stands unnamed (put p b tree) unnamed_stands
+  bytes_are : each stands (references unnamed) ≡ each (λ f. f.bytes) (put p bs tree)
+  bytes_are = row_files stands unnamed (put p bs tree) unnamed_stands
 
   -- what the row names is 0, for the file itself, or was named before
-  named_before : (r : ℕ) → 1 ≤ r → has (references unnamed) r ≡ true → has (references ws) r ≡ true
+  pub named_before : (r : ℕ) → 1 ≤ r → has (references unnamed) r ≡ true → has (references ws) r ≡ true
   named_before r one e = go (put_references (key_of p) ws (64 + length p) 0 r nine e)
     where
       go : (r ≡ 0) ⊎ (has (references ws) r ≡ true) → has (references ws) r ≡ true
       go (inl z) = absurd (omega arith)
-      go (inr h) = h
+      go (inr x) = x
+
+  -- THE ROOTS: the branch's commit, and what the row names
+  abbrev pub roots : List ℕ
+  roots = (tip_root h ∷ zeros 6) ++ references unnamed
 
   in_zeros : (n r : ℕ) → In r (zeros n) → r ≡ 0
   unfolding zeros
@@ -85,114 +102,99 @@ module _ (sum : Sum) (sums : (bs : List ℕ) → (length (sum bs) ≡ 32) × (al
   in_zeros (suc n) r (inl e) = sym e
   in_zeros (suc n) r (inr i) = in_zeros n r i
 
-  -- what is live is what the row names
-  pub live_named : (r : ℕ) → Live t roots r → (1 ≤ r) × (has (references unnamed) r ≡ true)
-  live_named r (root s one e) = (one, go (in_append s (zeros 7) (references unnamed) (has_in roots s e)))
+  root_cases : (r : ℕ) → 1 ≤ r → has roots r ≡ true → (r ≡ tip_root h) ⊎ (has (references ws) r ≡ true)
+  root_cases r one e = go (in_append r (tip_root h ∷ zeros 6) (references unnamed) (has_in roots r e))
     where
-      go : In s (zeros 7) ⊎ In s (references unnamed) → has (references unnamed) s ≡ true
-      go (inl i) = let z : s ≡ 0 = in_zeros 7 s i in absurd (omega (arith, z))
-      go (inr i) = in_has (references unnamed) s i
-  live_named r (named s q one l e) =
-      let k : (1 ≤ q) × (has (references unnamed) q ≡ true) = live_named q l in
-      absurd (false≢true (ap (λ rs. has rs s) (sym (file_names sum t q (files q (named_before q k.0 k.1)))) ∙ e))
+      go : In r (tip_root h ∷ zeros 6) ⊎ In r (references unnamed) → (r ≡ tip_root h) ⊎ (has (references ws) r ≡ true)
+      go (inl (inl q)) = inl (sym q)
+      go (inl (inr i)) = absurd (omega (arith, in_zeros 6 r i))
+      go (inr i) = inr (named_before r one (in_has (references unnamed) r i))
 
-  pub named_live : (r : ℕ) → 1 ≤ r → has (references unnamed) r ≡ true → Live t roots r
-  named_live r one e = root r one (in_has roots r (in_right r (zeros 7) (references unnamed) (has_in (references unnamed) r e)))
+  -- all of them are live already
+  pub roots_live : (r : ℕ) → 1 ≤ r → has roots r ≡ true → Live t (roots_of h) r
+  roots_live r one e = go (root_cases r one e)
+    where
+      go : (r ≡ tip_root h) ⊎ (has (references ws) r ≡ true) → Live t (roots_of h) r
+      go (inl q) = subst (Live t (roots_of h)) (sym q) (tip_live sum pages b number h t tree tips s (subst (λ i. 1 ≤ i) q one))
+      go (inr i) = lives r i
 
-  file_live : (r : ℕ) → Live t roots r → FileAt sum t r
-  file_live r l = let k = live_named r l in files r (named_before r k.0 k.1)
+  stored_now : Stored sum b number t roots
+  stored_now = stored_part sum b number t (roots_of h) roots roots_live s.stored
 
-  -- its bytes are among the files of the tree
-  among : (r : ℕ) → Live t roots r → In (bytes_at t r) (each (λ f. f.bytes) (put p b tree))
-  among r l =
-      let k = live_named r l in
-      subst (λ x. In x (each (λ f. f.bytes) (put p b tree))) (stands_for r k.0)
-      (subst (In (stands r)) bytes_are (in_each stands (references unnamed) r (has_in (references unnamed) r k.1)))
+  named_live : (r : ℕ) → 1 ≤ r → has (references unnamed) r ≡ true → Live t roots r
+  named_live r one e = root r one (in_has roots r (in_right r (tip_root h ∷ zeros 6) (references unnamed) (has_in (references unnamed) r e)))
 
-  -- and each file of the tree is the one that is put or a live one's
-  from_row : (q : List ℕ) → In q (each (λ f. f.bytes) (put p b tree)) → (q ≡ b) ⊎ ((r : ℕ) × Live t roots r × (bytes_at t r ≡ q))
+  root_is : (r : ℕ) → 1 ≤ r → has roots r ≡ true → Among number t tips extra r
+  root_is r one e = go (in_append r (tip_root h ∷ zeros 6) (references unnamed) (has_in roots r e))
+    where
+      go : In r (tip_root h ∷ zeros 6) ⊎ In r (references unnamed) → Among number t tips extra r
+      go (inl (inl q)) =
+          let c = numbered_is number t (tip_root h) tips s.tip (subst (λ i. 1 ≤ i) (sym q) one) in
+          inl (subst (λ i. kind_of (object_at t i) ≡ 3) q c.0, subst (λ i. In (number i) tips) q (subst (In (number (tip_root h))) (sym c.1) (inl refl)))
+      go (inl (inr i)) = absurd (omega (arith, in_zeros 6 r i))
+      go (inr i) =
+          let f : FileAt sum t r = files r (named_before r one (in_has (references unnamed) r i)) in
+          inr (inl (file_kind sum t r f, subst (λ x. In x (each (λ f. f.bytes) (put p bs tree))) (stands_for r one) (subst (In (stands r)) bytes_are (in_each stands (references unnamed) r i))))
+
+  tip_in : (k : ℕ) → In k tips → CommitThere number t roots k
+  tip_in k i =
+      let c = numbered_in number t (tip_root h) tips s.tip k i in
+      (tip_root h, root (tip_root h) c.0 (in_has roots (tip_root h) (inl refl)), c.1, c.2)
+
+  -- each file of the tree is the one that is put or a live one's
+  from_row : (q : List ℕ) → In q extra → (q ≡ bs) ⊎ FileThere t roots q
   from_row q i =
       let k : (r : ℕ) × In r (references unnamed) × (stands r ≡ q) = each_in stands (references unnamed) q (subst (In q) (sym bytes_are) i) in
       go k.0 k.1 k.2 (eqb k.0 0) refl
     where
-      go : (r : ℕ) → In r (references unnamed) → stands r ≡ q → (z : Bool) → eqb r 0 ≡ z → (q ≡ b) ⊎ ((r : ℕ) × Live t roots r × (bytes_at t r ≡ q))
-      go r i e true z = inl (sym e ∙ pick_true (eqb r 0) b (bytes_at t r) z)
-      go r i e false z = let one : 1 ≤ r = omega (arith, eqb-false r 0 z) in inr (r, named_live r one (in_has (references unnamed) r i), sym (stands_for r one) ∙ e)
+      go : (r : ℕ) → In r (references unnamed) → stands r ≡ q → (z : Bool) → eqb r 0 ≡ z → (q ≡ bs) ⊎ FileThere t roots q
+      go r i e true z = inl (sym e ∙ pick_true (eqb r 0) bs (bytes_at t r) z)
+      go r i e false z =
+          let one : 1 ≤ r = omega (arith, eqb-false r 0 z) in
+          let here : has (references unnamed) r ≡ true = in_has (references unnamed) r i in
+          inr (r, named_live r one here, file_kind sum t r (files r (named_before r one here)), sym (stands_for r one) ∙ e)
 
-  module _ (ls : List ℕ) (lives : Lives t roots ls) where
-    weigh : (r : ℕ) → has ls r ≡ true → weight_at t r ≡ 64 + length (bytes_at t r)
-    weigh r e = file_weighs sum t r (file_live r (lives.only r e))
+  -- a live file with the key
+  keyed_file : (r : ℕ) → Live t roots r → kind_of (object_at t r) ≡ 1 → FileAt sum t r
+  keyed_file r l k = as_file sum b number t r texts (stored_now.thing r l) k
 
-    differ : (r s : ℕ) → has ls r ≡ true → has ls s ≡ true → bytes_at t r ≡ bytes_at t s → r ≡ s
-    differ r s e f =
-        let k = live_named r (lives.only r e) in
-        let l = live_named s (lives.only s f) in
-        once r s (named_before r k.0 k.1) (named_before s l.0 l.1)
+  key_is : (r : ℕ) → Live t roots r → kind_of (object_at t r) ≡ 1 → has_key 1 (key_words (sum_key (sum bs))) (object_at t r) ≡ same (words 4 (sum (bytes_at t r))) (words 4 (sum bs))
+  key_is r l k = file_key sum t r (keyed_file r l k) (key_words (sum_key (sum bs))) ∙ ap (same (words 4 (sum (bytes_at t r)))) (sum_words (sum bs))
 
-    files_of : List (List ℕ)
-    files_of = each (λ f. f.bytes) (put p b tree)
-
-    -- a live file's bytes are listed, and what is listed is a live file's
-    listed : (q : List ℕ) (r : ℕ) → Live t roots r → bytes_at t r ≡ q → In q (each (bytes_at t) ls)
-    listed q r l e = subst (λ x. In x (each (bytes_at t) ls)) e (in_each (bytes_at t) ls r (has_in ls r (lives.all r l)))
-
-    of_live : (q : List ℕ) → In q (each (bytes_at t) ls) → In q (each (λ f. f.bytes) (put p b tree))
-    of_live q i =
-        let k = each_in (bytes_at t) ls q i in
-        subst (λ x. In x (each (λ f. f.bytes) (put p b tree))) k.2 (among k.0 (lives.only k.0 (in_has ls k.0 k.1)))
-
-    in_any : (xs : List (List ℕ)) (q : List ℕ) → In q xs → any (same q) xs ≡ true
-    in_any xs q i = any_from (same q) xs q i (same_refl q)
-
-    any_in_same : (xs : List (List ℕ)) (q : List ℕ) → any (same q) xs ≡ true → In q xs
-    any_in_same xs q e = let k = any_in (same q) xs e in subst (λ x. In x xs) (sym (same_true q k.0 k.2)) k.1
-
-    -- the file that is put is one of the tree's
-    put_in_it : In b (each (λ f. f.bytes) (put p b tree))
-    put_in_it = has_put p b tree
+  module _ (ls : List ℕ) (are_live : Lives t roots ls) where
+    weighs_by : weight b (keeping (put p bs tree) tips) ≡ files_weight (commits_files b tips ++ extra) + commits_weight b tips + weight_of (put p bs tree) + 128 * length tips
+    weighs_by = keeping_weighs b (put p bs tree) tips (numbered_few number t (tip_root h) tips s.tip)
 
     -- THERE ALREADY: a live file with the sum has the bytes
-    module _ (r : ℕ) (live : Live t roots r) (key : has_key 1 (key_words (sum_key (sum b))) (object_at t r) ≡ true) where
-      pub same_bytes : bytes_at t r ≡ b
-      same_bytes =
-          apart (bytes_at t r) b (among r live) put_in_it
-          (sum_by_words sum sums (bytes_at t r) b
-          (same_true (words 4 (sum (bytes_at t r))) (words 4 (sum b)) (ap (same (words 4 (sum (bytes_at t r)))) (sym (sum_words (sum b))) ∙ sym (file_key sum t r (file_live r live) (key_words (sum_key (sum b)))) ∙ key)))
+    module _ (r : ℕ) (live : Live t roots r) (key : has_key 1 (key_words (sum_key (sum bs))) (object_at t r) ≡ true) where
+      kind : kind_of (object_at t r) ≡ 1
+      kind = eqb-true (kind_of (object_at t r)) 1 (and_parts (eqb (kind_of (object_at t r)) 1) _ key).0
 
-      pub weighs_found : sheets_weight (put p b tree) ≡ weights t ls + weight_of (put p b tree)
+      pub found_file : FileAt sum t r
+      found_file = keyed_file r live kind
+
+      pub same_bytes : bytes_at t r ≡ bs
+      same_bytes =
+          apart (bytes_at t r) bs (live_file_reached sum b number t roots tips extra grown texts stored_now root_is r live kind) (in_right bs (commits_files b tips) extra (has_put p bs tree))
+          (sum_by_words sum sums (bytes_at t r) bs (same_true (words 4 (sum (bytes_at t r))) (words 4 (sum bs)) (sym (key_is r live kind) ∙ key)))
+
+      pub weighs_found : weight b (keeping (put p bs tree) tips) ≡ weights t ls + weight_of (put p bs tree) + 128 * length tips
       weighs_found =
-          ap (λ x. x + weight_of (put p b tree))
-          (files_weigh t ls (bytes_at t) (each (λ f. f.bytes) (put p b tree)) lives.rise weigh differ
-          (λ q. same_test (any (same q) (each (λ f. f.bytes) (put p b tree))) (any (same q) (each (bytes_at t) ls))
-          (λ e. in_any (each (bytes_at t) ls) q (forth q (from_row q (any_in_same (each (λ f. f.bytes) (put p b tree)) q e))))
-          (λ e. in_any (each (λ f. f.bytes) (put p b tree)) q (of_live q (any_in_same (each (bytes_at t) ls) q e)))))
+          weighs_by
+          ∙ ap (λ x. x + weight_of (put p bs tree) + 128 * length tips)
+          (sym (live_weighs sum b number t roots tips extra grown texts stored_now root_is tip_in (tips_once sum pages b number h t tree tips s) ls are_live (λ f i. there f (from_row f i))))
         where
-          forth : (q : List ℕ) → (q ≡ b) ⊎ ((s : ℕ) × Live t roots s × (bytes_at t s ≡ q)) → In q (each (bytes_at t) ls)
-          forth q (inl e) = listed q r live (same_bytes ∙ sym e)
-          forth q (inr k) = listed q k.0 k.1 k.2
+          there : (f : List ℕ) → (f ≡ bs) ⊎ FileThere t roots f → FileThere t roots f
+          there f (inl e) = (r, live, kind, same_bytes ∙ sym e)
+          there f (inr k) = k
 
     -- NOT THERE: no live file has the bytes
-    module _ (none : (r : ℕ) → Live t roots r → has_key 1 (key_words (sum_key (sum b))) (object_at t r) ≡ false) where
-      pub absent : (r : ℕ) → Live t roots r → bytes_at t r ≡ b → ⊥
-      absent r l e =
-          false≢true
-          (sym (none r l) ∙ file_key sum t r (file_live r l) (key_words (sum_key (sum b)))
-          ∙ same_from (words 4 (sum (bytes_at t r))) (key_words (sum_key (sum b))) (ap (λ x. words 4 (sum x)) e ∙ sym (sum_words (sum b))))
+    module _ (none : (r : ℕ) → Live t roots r → has_key 1 (key_words (sum_key (sum bs))) (object_at t r) ≡ false) where
+      pub absent : FileThere t roots bs → ⊥
+      absent (r, l, k, e) = false≢true (sym (none r l) ∙ key_is r l k ∙ same_from (words 4 (sum (bytes_at t r))) (words 4 (sum bs)) (ap (λ x. words 4 (sum x)) e))
 
-      pub weighs_more : sheets_weight (put p b tree) ≡ (weights t ls + (64 + length b)) + weight_of (put p b tree)
+      pub weighs_more : weight b (keeping (put p bs tree) tips) ≡ (weights t ls + (64 + length bs)) + weight_of (put p bs tree) + 128 * length tips
       weighs_more =
-          ap (λ x. x + weight_of (put p b tree))
-          (files_weigh_more t ls (bytes_at t) (each (λ f. f.bytes) (put p b tree)) lives.rise weigh differ b
-          (λ q. same_test (any (same q) (each (λ f. f.bytes) (put p b tree))) (or (same q b) (any (same q) (each (bytes_at t) ls)))
-          (λ e. forth q (from_row q (any_in_same (each (λ f. f.bytes) (put p b tree)) q e)))
-          (λ e. back q (or_cases (same q b) (any (same q) (each (bytes_at t) ls)) e)))
-          (none_any (same b) (each (bytes_at t) ls)
-          (λ q i. same_not b q (λ e. let k = each_in (bytes_at t) ls q i in absent k.0 (lives.only k.0 (in_has ls k.0 k.1)) (k.2 ∙ sym e)))))
-        where
-          forth : (q : List ℕ) → (q ≡ b) ⊎ ((s : ℕ) × Live t roots s × (bytes_at t s ≡ q)) → or (same q b) (any (same q) (each (bytes_at t) ls)) ≡ true
-          forth q (inl e) = or_left (same q b) (any (same q) (each (bytes_at t) ls)) (same_from q b e)
-          forth q (inr k) = or_right (same q b) (any (same q) (each (bytes_at t) ls)) (in_any (each (bytes_at t) ls) q (listed q k.0 k.1 k.2))
-
-          back : (q : List ℕ) → (same q b ≡ true) ⊎ (any (same q) (each (bytes_at t) ls) ≡ true) → any (same q) (each (λ f. f.bytes) (put p b tree)) ≡ true
-          back q (inl e) = in_any (each (λ f. f.bytes) (put p b tree)) q (subst (λ x. In x (each (λ f. f.bytes) (put p b tree))) (sym (same_true q b e)) put_in_it)
-          back q (inr e) = in_any (each (λ f. f.bytes) (put p b tree)) q (of_live q (any_in_same (each (bytes_at t) ls) q e))
+          weighs_by
+          ∙ ap (λ x. x + weight_of (put p bs tree) + 128 * length tips)
+          (sym (live_weighs_more sum b number t roots tips extra grown texts stored_now root_is tip_in (tips_once sum pages b number h t tree tips s) ls are_live bs (has_put p bs tree) from_row absent))

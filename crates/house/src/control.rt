@@ -1,34 +1,33 @@
-// The house as a client of the tape, for the commands that keep sheets in work.
-ghost use Rattle.std.specs.Prelude.{◌≡◌, ◌+◌, ◌<◌, ◌*◌, ◌≤◌, ◌&&◌, ◌++◌, ℕ, List, length, take, drop};
+// The house as a client of the tape, for the commands that keep sheets in work and note versions of them.
+ghost use Rattle.std.specs.Prelude.{◌≡◌, ◌+◌, ◌-◌, ◌*◌, ◌<◌, ◌≤◌, ◌&&◌, ◌==◌, ℕ, List, length, take, drop};
+ghost use Rattle.commands.specs.Command.{show_file};
 ghost use Rattle.commands.specs.Meaning.{meaning};
 ghost use Rattle.commands.specs.Refusal.{number_of};
-ghost use Rattle.house.specs.Control.{again, compare, control_client, desk_end, emptied, entry_weight, file_came, head_word, hearing, heard_of, kept as kept_of, laid_from, lay_file, lay_tree, lays, load, loaded, named, opened, own_cells, path_key, path_put, phase_code, phase_in, publish, recalled, reference_at, row_of, row_words, squeezed_in, started, sum_key, survey, surveyed, surveying, survey_roots, sweeping, task_code, task_in, tight, with_row};
+ghost use Rattle.house.specs.Control.{again, against, at_phase, bytes_at, changed, compare, control_client, desk_end, file_came, found_file, head_word, hearing, heard_of, kept as kept_of, kind_sought, laid_from, lay_commit, lay_file, lay_tree, layout_in, lays, load, load_old, loaded, log_from, logged, more_kept, named_after, opened, own_cells, phase_code, phase_in, publish, published_by, recalled, said_of, settled, spelled_in, started, sum_came, sum_key, sum_next, summed, survey, surveyed, surveying, survey_roots, sweeping, task_code, task_in, the_branch, tight, tip_came, under_tip};
 ghost use Rattle.house.specs.Entry.{own_sum};
-ghost use Rattle.objects.specs.Layouts.{file_read};
-ghost use Rattle.objects.specs.Marking.{asked_on, begun, walked, went_on, with_references};
-ghost use Rattle.objects.specs.Plan.{map_of, plan_end, with_map};
+ghost use Rattle.objects.specs.Layouts.{commit_read, file_read};
+ghost use Rattle.objects.specs.Marking.{asked_on, begun, walked, went_on};
+ghost use Rattle.objects.specs.Plan.{head_at};
 ghost use Rattle.objects.specs.Sweeping.{sweep_went_on, swung};
-ghost use Rattle.pages.specs.Machine.{asked, buffer_words};
+ghost use Rattle.pages.specs.Lists.{pick, same as is_same};
+ghost use Rattle.pages.specs.Machine.{asked, buffer_words, capped};
 ghost use Rattle.pages.specs.Words.{over};
-ghost use Rattle.pages.specs.declared.machine.Request.TheVariants.{Recall, Refuse as RefuseWith};
-ghost use Rattle.trees.specs.Packed.{spread_into, squeeze_answer, squeeze_into};
-ghost use Rattle.trees.specs.Row.{references};
+ghost use Rattle.pages.specs.declared.machine.Request.TheVariants.{Object, Recall, Refuse as RefuseWith};
 
 use crate::desk;
+use crate::spelling;
 use commands::{Command, Refusal, parse};
 use objects::cells::{sweep_cells, sweep_in, walk_cells, walk_in};
 use objects::mark::{Key, Walk};
 use objects::pack::copy_words;
 use objects::sweep::Sweep;
-use objects::{layouts, mark, plan, room};
+use objects::{layouts, plan, room};
 use pages::machine::{BUFFER, Client, Request};
 use pages::words::words_in;
-use store::hasher::sum;
+use store::hasher::{Hasher, sum};
 use trees::differences::{Cursor, Difference, differ, show};
 use trees::entries::entries;
-use trees::keys::{self, key};
-use trees::rows::{find_key, put_key, take_key, weight};
-use trees::stored::{spread, squeeze};
+use trees::rows::{find_key, put_key, same, take_key, weight};
 
 // What the command asks for, once it is read.
 #[derive(Clone, Copy, Debug, PartialEq, Eq)]
@@ -109,7 +108,17 @@ impl Task {
     fn lays(self) -> bool
         ensures { result ≡ lays self }
     {
-        matches!(self, Task::Write | Task::Drop)
+        matches!(self, Task::Write | Task::Drop | Task::Note)
+    }
+
+    // The kind of what may be there already: a file, or a commit.
+    fn kind_sought(self) -> u64
+        ensures { result ≡ kind_sought self }
+    {
+        match self {
+            Task::Note => 3,
+            _ => 1,
+        }
     }
 }
 
@@ -166,13 +175,13 @@ pub struct Control {
     pub pages: u64,
     pub task: Task,
     pub phase: Phase,
-    // The file that is written: how many bytes it has, and their sum.
+    // The file that is written: how many bytes it has, and their sum; of what is noted, how many its words have, and its id.
     pub bytes: u64,
     pub sum: Key,
-    // The next page to be laid, and the new tree.
+    // The next page to be laid; the new tree or commit, or the next commit of the log.
     pub page: u64,
     pub root: u64,
-    // Where the next difference is looked for.
+    // Where the next difference is looked for, or which file's sum.
     pub cursor: Cursor,
     pub version: Version,
     pub sweep: Sweep,
@@ -187,136 +196,28 @@ const NO_SUM: Key = Key {
     d: 0,
 };
 
-// A word of the head that was recalled.
-fn head_word(memory: &[u64], at: usize) -> u64
-    requires { (desk_end ≤ length memory.now) × (at < 32) }
-    ensures { result ≡ head_word memory.now at }
+// The one branch that there may be.
+const BRANCH: [u8; 4] = *b"main";
+
+fn is_branch(name: &[u8]) -> bool
+    ensures { result ≡ is_same the_branch name.now }
 {
-    memory[plan::HEAD + at]
+    BRANCH.as_slice() == name
 }
 
 // A sum as a key.
-fn sum_key(bytes: &[u8]) -> Key
-    ensures { result ≡ sum_key (own_sum bytes.now) }
+fn key_of(sum: &[u8; 32]) -> Key
+    ensures { result ≡ sum_key sum.now }
 {
-    let [a, b, c, d] = words_in::<4>(&sum(bytes));
+    let [a, b, c, d] = words_in::<4>(sum);
     Key { a, b, c, d }
 }
 
-// The path's key is put aside.
-fn put_path(memory: &mut [u64], path: &[u8])
-    requires { desk_end ≤ length memory.old }
-    ensures { memory.new ≡ path_put path.now memory.old }
+// Where the object of a reference stands on the tape.
+fn place_of(reference: u64) -> u64
+    ensures { result ≡ capped (8 * (reference - 1)) }
 {
-    if let Some(key) = key(path) {
-        memory[desk::PATH..desk::PATH_END].copy_from_slice(&key);
-    }
-}
-
-// The key of the command's path.
-fn path_key(memory: &[u64]) -> keys::Key
-    requires { desk_end ≤ length memory.now }
-    ensures { result ≡ path_key memory.now }
-{
-    let mut key = [0; 9];
-    key.copy_from_slice(&memory[desk::PATH..desk::PATH_END]);
-    key
-}
-
-// What an entry at that path weighs.
-fn entry_weight(memory: &[u64]) -> u64
-    requires { desk_end ≤ length memory.now }
-    ensures { result ≡ entry_weight memory.now }
-{
-    memory[desk::PATH_END - 1].saturating_add(64)
-}
-
-// The command's file is named in the row.
-fn name_file(memory: &mut [u64], reference: u64)
-    requires { desk_end ≤ length memory.old }
-    ensures { memory.new ≡ named reference memory.old }
-{
-    let key = path_key(memory);
-    let weight = entry_weight(memory);
-    let _ = put_key(
-        &mut memory[desk::ROW..desk::ROW_END],
-        &key,
-        weight,
-        reference,
-    );
-}
-
-// An empty tree's row.
-fn empty_row(memory: &mut [u64], at: usize)
-    requires { at + 2 ≤ length memory.old }
-    ensures { memory.new ≡ emptied at memory.old }
-{
-    memory[at..at + 2].copy_from_slice(&[0, 0]);
-}
-
-// The reference of an object that starts at a page.
-fn reference_at(page: u64) -> u64
-    ensures { result ≡ reference_at page }
-{
-    page.saturating_mul(8).saturating_add(1)
-}
-
-// A row behind what is stored in front of it.
-fn spread_behind(front: &[u64], behind: &mut [u64])
-    requires { (buffer_words ≤ length front.now) × (row_words ≤ length behind.old) }
-    ensures { behind.new ≡ over 0 (spread_into (take buffer_words front.now) (take row_words behind.old)) behind.old }
-{
-    spread(&front[..BUFFER], &mut behind[..desk::ROW_WORDS]);
-}
-
-// The tree that was loaded stands in the row.
-fn spread_row(memory: &mut [u64])
-    requires { desk_end ≤ length memory.old }
-    ensures { memory.new ≡ with_row (spread_into (take buffer_words memory.old) (row_of memory.old)) memory.old }
-{
-    let (front, behind) = memory.split_at_mut(desk::ROW);
-    spread_behind(front, behind);
-}
-
-// A row is stored in front of where it stands.
-fn squeeze_before(front: &mut [u64], behind: &[u64]) -> Option<usize>
-    requires { (buffer_words ≤ length front.old) × (row_words ≤ length behind.now) }
-    ensures answer { result ≡ squeeze_answer (take row_words behind.now) (take buffer_words front.old) }
-    ensures front { front.new ≡ squeeze_into (take row_words behind.now) (take buffer_words front.old) ++ drop buffer_words front.old }
-{
-    squeeze(&behind[..desk::ROW_WORDS], &mut front[..BUFFER])
-}
-
-// The row is stored in front of the buffer: how many words that takes.
-fn squeeze_row(memory: &mut [u64]) -> Option<usize>
-    requires { desk_end ≤ length memory.old }
-    ensures answer { result ≡ squeeze_answer (row_of memory.old) (take buffer_words memory.old) }
-    ensures memory { memory.new ≡ squeezed_in memory.old }
-{
-    let (front, behind) = memory.split_at_mut(desk::ROW);
-    squeeze_before(front, behind)
-}
-
-// Marks the files of a row behind the map.
-fn mark_files(front: &mut [u64], first: u64, behind: &[u64])
-    requires { (plan_end ≤ length front.old) × (row_words ≤ length behind.now) }
-    ensures { front.new ≡ with_map (with_references first (references (take row_words behind.now)) (map_of front.old)) front.old }
-{
-    for entry in entries(&behind[..desk::ROW_WORDS]) {
-        mark::mark_root(front, first, entry[9]);
-    }
-}
-
-// Marks what will be live: what the head names, but for the tree in work, and the files of the row.
-fn mark_kept(memory: &mut [u64], first: u64)
-    requires { desk_end ≤ length memory.old }
-    ensures { memory.new ≡ begun first (survey_roots memory.old) memory.old }
-{
-    let mut roots = [0; 7];
-    roots.copy_from_slice(&memory[plan::HEAD + 3..plan::HEAD + 10]);
-    let (front, behind) = memory.split_at_mut(desk::ROW);
-    mark::mark_roots(front, first, &roots);
-    mark_files(front, first, behind);
+    reference.saturating_sub(1).saturating_mul(8)
 }
 
 fn refuse(why: Refusal) -> Request
@@ -328,7 +229,7 @@ fn refuse(why: Refusal) -> Request
 }
 
 impl Control {
-    // The cells that hold it, but for its sweep and its walk.
+    // The cells that hold it, but for its sweep, its walk and what is noted.
     fn own_cells(&self) -> [u64; 14]
         ensures { result ≡ own_cells self.now }
     {
@@ -364,6 +265,18 @@ impl Control {
         Request::Recall
     }
 
+    // A file of a branch is to be shown.
+    fn view(&mut self, memory: &mut [u64], name: &[u8], path: &[u8]) -> Request
+        requires { desk_end ≤ length memory.old }
+        ensures { asked self.new memory.new result ≡ said_of own_sum self.old memory.old (show_file name.now path.now) }
+    {
+        if !is_branch(name) {
+            return refuse(Refusal::NotThere);
+        }
+        desk::put_path(memory, path);
+        self.begin(Task::View, 0, NO_SUM)
+    }
+
     // What is said is put aside.
     fn take(&mut self, memory: &mut [u64], command: Option<Command<'_>>) -> Request
         requires { desk_end ≤ length memory.old }
@@ -374,16 +287,26 @@ impl Control {
         };
         match command {
             Command::WriteFile(path, bytes) => {
-                put_path(memory, path);
+                desk::put_path(memory, path);
                 layouts::put_bytes(memory, desk::BYTES, bytes);
-                self.begin(Task::Write, bytes.len() as u64, sum_key(bytes))
+                self.begin(Task::Write, bytes.len() as u64, key_of(&sum(bytes)))
             }
             Command::DropFile(path) => {
-                put_path(memory, path);
+                desk::put_path(memory, path);
                 self.begin(Task::Drop, 0, NO_SUM)
             }
+            Command::Commit(stamp, words) => {
+                layouts::put_bytes(memory, desk::BYTES, words);
+                self.version = Version {
+                    stamp,
+                    parent: NO_SUM,
+                };
+                self.begin(Task::Note, words.len() as u64, NO_SUM)
+            }
+            Command::History => self.begin(Task::Log, 0, NO_SUM),
+            Command::ShowFile(name, path) => self.view(memory, name, path),
             Command::ReadFile(path) => {
-                put_path(memory, path);
+                desk::put_path(memory, path);
                 self.begin(Task::Read, 0, NO_SUM)
             }
             Command::Status => self.begin(Task::Status, 0, NO_SUM),
@@ -392,16 +315,29 @@ impl Control {
         }
     }
 
-    // The new head: what was laid up to a page is in its window, and the tree in work is this one.
-    fn publish(&mut self, memory: &mut [u64], page: u64, root: u64) -> Request
+    // The new head: what was laid up to a page is in its window, and it names a tree in work and a last commit.
+    fn publish(&mut self, memory: &mut [u64], page: u64, root: u64, tip: u64) -> Request
         requires { desk_end ≤ length memory.old }
-        ensures { asked self.new memory.new result ≡ publish self.old memory.old page root }
+        ensures { asked self.new memory.new result ≡ publish self.old memory.old page root tip }
     {
-        copy_words(memory, plan::HEAD, 0, 32);
-        memory[1] = page;
-        memory[2] = root;
+        desk::put_head(memory, page, root, tip);
         self.phase = Phase::Publishing;
         Request::Publish
+    }
+
+    // The head is published: the id of what was noted is shown.
+    fn published(&mut self, memory: &mut [u64]) -> Request
+        requires { desk_end ≤ length memory.old }
+        ensures { asked self.new memory.new result ≡ published_by self.old memory.old self.old.task }
+    {
+        match self.task {
+            Task::Note => {
+                desk::put_id(memory, self.sum);
+                self.phase = Phase::Showing;
+                Request::Show { bytes: 32 }
+            }
+            _ => Request::Done,
+        }
     }
 
     // The object in front of the buffer is laid on fresh pages.
@@ -421,10 +357,11 @@ impl Control {
         requires { desk_end ≤ length memory.old }
         ensures { asked self.new memory.new result ≡ lay_tree self.old memory.old page }
     {
-        let Some(words) = squeeze_row(memory) else {
+        let Some(words) = desk::squeeze_row(memory) else {
             return refuse(Refusal::NotKnown);
         };
-        self.lay(Phase::LayingTree, page, words as u64, reference_at(page))
+        let root = desk::reference_at(page);
+        self.lay(Phase::LayingTree, page, words as u64, root)
     }
 
     // The file is laid, and named in the row.
@@ -435,8 +372,64 @@ impl Control {
         let Some(words) = layouts::compose_file(memory, self.sum, self.bytes, desk::BYTES) else {
             return refuse(Refusal::NotKnown);
         };
-        name_file(memory, reference_at(page));
+        desk::name_file(memory, desk::reference_at(page));
         self.lay(Phase::LayingFile, page, words, self.root)
+    }
+
+    // The commit of the tree in work, which comes from the last one.
+    fn layout(&self, memory: &[u64]) -> layouts::Commit
+        requires { desk_end ≤ length memory.now }
+        ensures { result ≡ layout_in self.now memory.now }
+    {
+        layouts::Commit {
+            tree: desk::head_word(memory, 2),
+            one: desk::head_word(memory, 3),
+            two: 0,
+            id: self.sum,
+            stamp: self.version.stamp,
+            tree_weight: weight(&memory[desk::ROW..desk::ROW_END]),
+            bytes: self.bytes,
+        }
+    }
+
+    // The commit is laid.
+    fn lay_commit(&mut self, memory: &mut [u64], page: u64) -> Request
+        requires { desk_end ≤ length memory.old }
+        ensures { asked self.new memory.new result ≡ lay_commit self.old memory.old page }
+    {
+        let commit = self.layout(memory);
+        let Some(words) = layouts::compose_commit(memory, commit, desk::BYTES) else {
+            return refuse(Refusal::NotKnown);
+        };
+        let tip = desk::reference_at(page);
+        self.lay(Phase::LayingCommit, page, words, tip)
+    }
+
+    // What comes to what is live, if what was looked for is not there.
+    fn more_kept(&self, memory: &[u64]) -> u64
+        requires { desk_end ≤ length memory.now }
+        ensures { result ≡ more_kept self.now memory.now self.now.task }
+    {
+        match self.task {
+            Task::Write => self.bytes.saturating_add(64),
+            Task::Note => self
+                .bytes
+                .saturating_add(256)
+                .saturating_add(weight(&memory[desk::ROW..desk::ROW_END])),
+            _ => 0,
+        }
+    }
+
+    // What the branch's name weighs, if it has a commit or will have one.
+    fn name_kept(&self, memory: &[u64]) -> u64
+        requires { desk_end ≤ length memory.now }
+        ensures { result ≡ pick (named_after memory.now self.now.task) 128 0 }
+    {
+        if self.task == Task::Note || desk::head_word(memory, 3) != 0 {
+            128
+        } else {
+            0
+        }
     }
 
     // How much is to be kept after the command.
@@ -445,17 +438,61 @@ impl Control {
         ensures { result ≡ kept_of self.now self.now.walk memory.now }
     {
         let more = if self.walk.found == 0 {
-            self.bytes.saturating_add(64)
+            self.more_kept(memory)
         } else {
             0
         };
         self.walk
             .weight
             .saturating_add(weight(&memory[desk::ROW..desk::ROW_END]))
+            .saturating_add(self.name_kept(memory))
             .saturating_add(more)
     }
 
-    // All that will be live is met: there is room for it, or not; the file is there already, or is laid.
+    // The file is there already, or is laid.
+    fn settle_file(&mut self, memory: &mut [u64]) -> Request
+        requires { desk_end ≤ length memory.old }
+        ensures { asked self.new memory.new result ≡ settled self.old self.old.walk memory.old Task.Write }
+    {
+        let page = desk::head_word(memory, 1);
+        if self.walk.found == 0 {
+            return self.lay_file(memory, page);
+        }
+        desk::name_file(memory, self.walk.found);
+        self.lay_tree(memory, page)
+    }
+
+    // The commit is there already, or is laid.
+    fn settle_commit(&mut self, memory: &mut [u64]) -> Request
+        requires { desk_end ≤ length memory.old }
+        ensures { asked self.new memory.new result ≡ settled self.old self.old.walk memory.old Task.Note }
+    {
+        let page = desk::head_word(memory, 1);
+        if self.walk.found == 0 {
+            return self.lay_commit(memory, page);
+        }
+        let root = desk::head_word(memory, 2);
+        self.publish(memory, page, root, self.walk.found)
+    }
+
+    // There is room for what is to be kept.
+    fn settled(&mut self, memory: &mut [u64]) -> Request
+        requires { desk_end ≤ length memory.old }
+        ensures { asked self.new memory.new result ≡ settled self.old self.old.walk memory.old self.old.task }
+    {
+        match self.task {
+            Task::Write => self.settle_file(memory),
+            Task::Note => self.settle_commit(memory),
+            Task::Leave => {
+                let page = desk::head_word(memory, 1);
+                let tip = desk::head_word(memory, 3);
+                self.publish(memory, page, self.root, tip)
+            }
+            _ => Request::Done,
+        }
+    }
+
+    // All that will be live is met: there is room for it, or not.
     fn settle(&mut self, memory: &mut [u64]) -> Request
         requires { desk_end ≤ length memory.old }
         ensures { asked self.new memory.new result ≡ surveyed self.old self.old.walk memory.old }
@@ -464,12 +501,7 @@ impl Control {
         if self.kept(memory) > room::quarter(self.pages) {
             return refuse(Refusal::NoRoom);
         }
-        let page = head_word(memory, 1);
-        if self.walk.found == 0 {
-            return self.lay_file(memory, page);
-        }
-        name_file(memory, self.walk.found);
-        self.lay_tree(memory, page)
+        self.settled(memory)
     }
 
     // The walk asks for something; if not, all is met.
@@ -484,22 +516,33 @@ impl Control {
         request
     }
 
+    // Marks what will be live: what is noted names the tree in work, so that stays.
+    fn mark(&self, memory: &mut [u64], first: u64)
+        requires { desk_end ≤ length memory.old }
+        ensures { memory.new ≡ begun first (survey_roots self.now.task memory.old) memory.old }
+    {
+        match self.task {
+            Task::Note => desk::mark_named(memory, first),
+            _ => desk::mark_kept(memory, first),
+        }
+    }
+
     // A survey begins.
     fn survey(&mut self, memory: &mut [u64]) -> Request
         requires { desk_end ≤ length memory.old }
         ensures { asked self.new memory.new result ≡ survey self.old memory.old }
     {
-        let first = head_word(memory, 0);
-        let last = head_word(memory, 1);
+        let first = desk::head_word(memory, 0);
+        let last = desk::head_word(memory, 1);
         self.walk = Walk {
             first: first.saturating_mul(8),
             below: last.saturating_sub(first).saturating_mul(8),
             weight: 0,
-            kind: 1,
+            kind: self.task.kind_sought(),
             key: self.sum,
             found: 0,
         };
-        mark_kept(memory, first.saturating_mul(8));
+        self.mark(memory, first.saturating_mul(8));
         let request = self.walk.seek(memory);
         self.surveyed(memory, request)
     }
@@ -510,6 +553,56 @@ impl Control {
     {
         let request = self.walk.go_on(memory);
         self.surveyed(memory, request)
+    }
+
+    // The id of what is noted: the sum of its spelling.
+    fn id(&self, memory: &[u64]) -> Key
+        requires { desk_end ≤ length memory.now }
+        ensures { result ≡ sum_key (own_sum (spelled_in self.now memory.now)) }
+    {
+        let tip = desk::head_word(memory, 3);
+        let row = &memory[desk::ROW..desk::ROW_END];
+        let sums = &memory[plan::COUNTS..plan::END];
+        let many = self.bytes.min(65_535) as usize;
+        let words = &memory[desk::BYTES..desk::BYTES + many.div_ceil(8)];
+        let mut hasher = Hasher::new();
+        spelling::add_parents(&mut hasher, tip, self.version.parent);
+        spelling::add_files(&mut hasher, row, sums);
+        spelling::add_number(&mut hasher, self.version.stamp);
+        spelling::add_words(&mut hasher, words, many);
+        key_of(&hasher.finish())
+    }
+
+    // What is noted has its id.
+    fn summed(&mut self, memory: &mut [u64]) -> Request
+        requires { desk_end ≤ length memory.old }
+        ensures { asked self.new memory.new result ≡ summed own_sum self.old memory.old }
+    {
+        self.sum = self.id(memory);
+        self.survey(memory)
+    }
+
+    // The sum of the next file of the row is looked at.
+    fn sum_next(&mut self, memory: &mut [u64], file: usize) -> Request
+        requires { desk_end ≤ length memory.old }
+        ensures { asked self.new memory.new result ≡ sum_next own_sum self.old memory.old file }
+    {
+        if file >= entries(&memory[desk::ROW..desk::ROW_END]).len() {
+            return self.summed(memory);
+        }
+        let at = place_of(memory[desk::ROW + 10 * file + 11]);
+        self.phase = Phase::Summing;
+        self.cursor = Cursor { old: file, new: 0 };
+        Request::Object { at, limit: 6 }
+    }
+
+    // The front of a file came, in which its sum is.
+    fn sum_came(&mut self, memory: &mut [u64]) -> Request
+        requires { desk_end ≤ length memory.old }
+        ensures { asked self.new memory.new result ≡ sum_came own_sum self.old memory.old }
+    {
+        desk::put_sum(memory, self.cursor.old);
+        self.sum_next(memory, self.cursor.old.saturating_add(1))
     }
 
     // The next difference is shown.
@@ -532,6 +625,66 @@ impl Control {
         }
     }
 
+    // What differs from the last commit is noted.
+    fn changed(&mut self, memory: &mut [u64]) -> Request
+        requires { desk_end ≤ length memory.old }
+        ensures { asked self.new memory.new result ≡ changed own_sum self.old memory.old }
+    {
+        let old = &memory[desk::OLD_ROW..desk::OLD_ROW_END];
+        let new = &memory[desk::ROW..desk::ROW_END];
+        if same(old, new) {
+            return refuse(Refusal::NothingToDo);
+        }
+        self.sum_next(memory, 0)
+    }
+
+    // Both trees are in their rows.
+    fn against(&mut self, memory: &mut [u64]) -> Request
+        requires { desk_end ≤ length memory.old }
+        ensures { asked self.new memory.new result ≡ against own_sum self.old memory.old self.old.task }
+    {
+        match self.task {
+            Task::Status => self.compare(memory),
+            Task::Note => self.changed(memory),
+            _ => Request::Done,
+        }
+    }
+
+    // A tree or a commit is asked for.
+    fn ask(&mut self, phase: Phase, reference: u64) -> Request
+        ensures { (m : List ℕ) → asked self.new m result ≡ asked (at_phase phase self.old) m (Object (capped (8 * (reference - 1))) buffer_words) }
+    {
+        self.phase = phase;
+        Request::Object {
+            at: place_of(reference),
+            limit: BUFFER as u64,
+        }
+    }
+
+    // The tree that is compared to is asked for, if there is one.
+    fn load_old(&mut self, memory: &mut [u64], root: u64) -> Request
+        requires { desk_end ≤ length memory.old }
+        ensures { asked self.new memory.new result ≡ load_old own_sum self.old memory.old root }
+    {
+        if root == 0 {
+            desk::empty_row(memory, desk::OLD_ROW);
+            return self.against(memory);
+        }
+        self.ask(Phase::LoadingOld, root)
+    }
+
+    // The last commit's tree is compared to; where there is no commit, the empty one.
+    fn load_last(&mut self, memory: &mut [u64]) -> Request
+        requires { desk_end ≤ length memory.old }
+        ensures { asked self.new memory.new result ≡ loaded own_sum self.old memory.old Task.Note }
+    {
+        let tip = desk::head_word(memory, 3);
+        if tip == 0 {
+            return self.load_old(memory, 0);
+        }
+        self.ask(Phase::OpeningTip, tip)
+    }
+
     // The file of a reference is asked for.
     fn open(&mut self, reference: Option<u64>) -> Request
         ensures { (m : List ℕ) → asked self.new m result ≡ opened self.old m reference }
@@ -539,20 +692,25 @@ impl Control {
         let Some(reference) = reference else {
             return refuse(Refusal::NotThere);
         };
-        self.phase = Phase::Opening;
-        Request::Object {
-            at: reference.saturating_sub(1).saturating_mul(8),
-            limit: BUFFER as u64,
-        }
+        self.ask(Phase::Opening, reference)
+    }
+
+    // The file at the command's path is asked for.
+    fn find_file(&mut self, memory: &[u64]) -> Request
+        requires { desk_end ≤ length memory.now }
+        ensures { asked self.new memory.now result ≡ found_file self.old memory.now }
+    {
+        let key = desk::path_key(memory);
+        self.open(find_key(&memory[desk::ROW..desk::ROW_END], &key))
     }
 
     // A file is written into the row, for now with no reference.
     fn write(&mut self, memory: &mut [u64]) -> Request
         requires { desk_end ≤ length memory.old }
-        ensures { asked self.new memory.new result ≡ loaded self.old memory.old Task.Write }
+        ensures { asked self.new memory.new result ≡ loaded own_sum self.old memory.old Task.Write }
     {
-        let key = path_key(memory);
-        let weight = entry_weight(memory);
+        let key = desk::path_key(memory);
+        let weight = desk::entry_weight(memory);
         if put_key(&mut memory[desk::ROW..desk::ROW_END], &key, weight, 0).is_err() {
             return refuse(Refusal::TooManyFiles);
         }
@@ -562,63 +720,137 @@ impl Control {
     // A file is taken out of the row.
     fn remove(&mut self, memory: &mut [u64]) -> Request
         requires { desk_end ≤ length memory.old }
-        ensures { asked self.new memory.new result ≡ loaded self.old memory.old Task.Drop }
+        ensures { asked self.new memory.new result ≡ loaded own_sum self.old memory.old Task.Drop }
     {
-        let key = path_key(memory);
-        let weight = entry_weight(memory);
+        let key = desk::path_key(memory);
+        let weight = desk::entry_weight(memory);
         if !take_key(&mut memory[desk::ROW..desk::ROW_END], &key, weight) {
             return refuse(Refusal::NotThere);
         }
-        self.lay_tree(memory, head_word(memory, 1))
+        self.lay_tree(memory, desk::head_word(memory, 1))
     }
 
-    // The tree in work is in its row.
+    // The tree is in its row.
     fn loaded(&mut self, memory: &mut [u64]) -> Request
         requires { desk_end ≤ length memory.old }
-        ensures { asked self.new memory.new result ≡ loaded self.old memory.old self.old.task }
+        ensures { asked self.new memory.new result ≡ loaded own_sum self.old memory.old self.old.task }
     {
         match self.task {
-            Task::Nothing => Request::Done,
             Task::Write => self.write(memory),
             Task::Drop => self.remove(memory),
-            Task::Read => {
-                let key = path_key(memory);
-                self.open(find_key(&memory[desk::ROW..desk::ROW_END], &key))
-            }
-            Task::Status => {
-                empty_row(memory, desk::OLD_ROW);
-                self.compare(memory)
-            }
-            Task::Leave => Request::Done,
+            Task::Read | Task::View => self.find_file(memory),
+            Task::Status | Task::Note => self.load_last(memory),
+            Task::Nothing | Task::Leave | Task::Log => Request::Done,
         }
     }
 
-    // The tree in work is asked for, if there is one.
-    fn load_tree(&mut self, memory: &mut [u64]) -> Request
+    // A tree is asked for, if there is one.
+    fn load_tree(&mut self, memory: &mut [u64], root: u64) -> Request
         requires { desk_end ≤ length memory.old }
-        ensures { asked self.new memory.new result ≡ load self.old memory.old }
+        ensures { asked self.new memory.new result ≡ load own_sum self.old memory.old root }
     {
-        let root = head_word(memory, 2);
         if root == 0 {
-            empty_row(memory, desk::ROW);
+            desk::empty_row(memory, desk::ROW);
             return self.loaded(memory);
         }
-        self.phase = Phase::Loading;
-        Request::Object {
-            at: (root - 1).saturating_mul(8),
-            limit: BUFFER as u64,
+        self.ask(Phase::Loading, root)
+    }
+
+    // A tree comes in place of the one in work, if there is room for it: what the head names else is surveyed, and the tree's weight stands in the row.
+    fn put_back(&mut self, memory: &mut [u64], root: u64, weight: u64) -> Request
+        requires { desk_end ≤ length memory.old }
+        ensures { asked self.new memory.new result ≡ under_tip own_sum self.old memory.old root weight Task.Leave }
+    {
+        desk::weigh_row(memory, weight);
+        self.root = root;
+        self.survey(memory)
+    }
+
+    // The last commit's tree, which weighs so much, is compared to, put in work, or looked into.
+    fn under_tip(&mut self, memory: &mut [u64], root: u64, weight: u64) -> Request
+        requires { desk_end ≤ length memory.old }
+        ensures { asked self.new memory.new result ≡ under_tip own_sum self.old memory.old root weight self.old.task }
+    {
+        match self.task {
+            Task::Status | Task::Note => self.load_old(memory, root),
+            Task::Leave => self.put_back(memory, root, weight),
+            Task::View => self.load_tree(memory, root),
+            _ => Request::Done,
         }
+    }
+
+    // The last commit came.
+    fn tip_came(&mut self, memory: &mut [u64]) -> Request
+        requires { desk_end ≤ length memory.old }
+        ensures { asked self.new memory.new result ≡ tip_came own_sum self.old memory.old (commit_read memory.old) }
+    {
+        let Some(commit) = layouts::read_commit(memory) else {
+            return refuse(Refusal::NotKnown);
+        };
+        self.version.parent = commit.id;
+        self.under_tip(memory, commit.tree, commit.tree_weight)
+    }
+
+    // A commit of the log is asked for, if there is one more.
+    fn log_from(&mut self, reference: u64) -> Request
+        ensures { (m : List ℕ) → asked self.new m result ≡ log_from self.old m reference }
+    {
+        if reference == 0 {
+            return Request::Done;
+        }
+        self.ask(Phase::OpeningLogged, reference)
+    }
+
+    // A commit of the log came: its id and its words are shown.
+    fn logged(&mut self, memory: &mut [u64]) -> Request
+        requires { desk_end ≤ length memory.old }
+        ensures { asked self.new memory.new result ≡ logged self.old memory.old (commit_read memory.old) }
+    {
+        let Some(commit) = layouts::read_commit(memory) else {
+            return refuse(Refusal::NotKnown);
+        };
+        let bytes = commit.bytes.min(65_535);
+        desk::put_logged(memory, commit.id, bytes);
+        self.phase = Phase::ShowingLogged;
+        self.root = commit.one;
+        Request::Show { bytes: 32 + bytes }
+    }
+
+    // The tree in work is left; where there is no commit, for the empty one.
+    fn leave(&mut self, memory: &mut [u64]) -> Request
+        requires { desk_end ≤ length memory.old }
+        ensures { asked self.new memory.new result ≡ started own_sum self.old memory.old Task.Leave }
+    {
+        let tip = desk::head_word(memory, 3);
+        if tip == 0 {
+            let page = desk::head_word(memory, 1);
+            return self.publish(memory, page, 0, 0);
+        }
+        self.ask(Phase::OpeningTip, tip)
+    }
+
+    // The last commit is asked for, whose tree is looked into.
+    fn look_into(&mut self, memory: &[u64]) -> Request
+        requires { desk_end ≤ length memory.now }
+        ensures { asked self.new memory.now result ≡ started own_sum self.old memory.now Task.View }
+    {
+        let tip = desk::head_word(memory, 3);
+        if tip == 0 {
+            return refuse(Refusal::NotThere);
+        }
+        self.ask(Phase::OpeningTip, tip)
     }
 
     fn start(&mut self, memory: &mut [u64]) -> Request
         requires { desk_end ≤ length memory.old }
-        ensures { asked self.new memory.new result ≡ started self.old memory.old self.old.task }
+        ensures { asked self.new memory.new result ≡ started own_sum self.old memory.old self.old.task }
     {
         match self.task {
             Task::Nothing => Request::Done,
-            // The branch has no commit yet, so its tree is the empty one.
-            Task::Leave => self.publish(memory, head_word(memory, 1), 0),
-            _ => self.load_tree(memory),
+            Task::Leave => self.leave(memory),
+            Task::Log => self.log_from(desk::head_word(memory, 3)),
+            Task::View => self.look_into(memory),
+            _ => self.load_tree(memory, desk::head_word(memory, 2)),
         }
     }
 
@@ -639,7 +871,8 @@ impl Control {
         requires { desk_end ≤ length memory.now }
         ensures { result ≡ tight self.now.pages memory.now }
     {
-        let window = head_word(memory, 1).saturating_sub(head_word(memory, 0));
+        let first = desk::head_word(memory, 0);
+        let window = desk::head_word(memory, 1).saturating_sub(first);
         let wanted = room::reserve(self.pages)
             .saturating_mul(2)
             .saturating_add(window);
@@ -657,7 +890,7 @@ impl Control {
     // The head is there.
     fn recalled(&mut self, memory: &mut [u64]) -> Request
         requires { desk_end ≤ length memory.old }
-        ensures { asked self.new memory.new result ≡ recalled self.old (over 41152 (take 32 memory.old) memory.old) }
+        ensures { asked self.new memory.new result ≡ recalled own_sum self.old (over head_at (take 32 memory.old) memory.old) }
     {
         copy_words(memory, 0, plan::HEAD, 32);
         if self.sweeps_first(memory) {
@@ -729,6 +962,15 @@ impl Client for Control {
                 old: old as usize,
                 new: new as usize,
             },
+            version: Version {
+                stamp: cells[37],
+                parent: Key {
+                    a: cells[38],
+                    b: cells[39],
+                    c: cells[40],
+                    d: cells[41],
+                },
+            },
             sweep: sweep_in(&sweep),
             walk: walk_in(&walk),
         }
@@ -739,6 +981,8 @@ impl Client for Control {
         cells[..14].copy_from_slice(&self.own_cells());
         cells[14..28].copy_from_slice(&sweep_cells(&self.sweep));
         cells[28..37].copy_from_slice(&walk_cells(&self.walk));
+        cells[37] = self.version.stamp;
+        cells[38..42].copy_from_slice(&self.version.parent.words());
         cells
     }
 
@@ -753,6 +997,10 @@ impl Client for Control {
         self.page = 0;
         self.root = 0;
         self.cursor = Cursor { old: 0, new: 0 };
+        self.version = Version {
+            stamp: 0,
+            parent: NO_SUM,
+        };
     }
 
     fn hear(&mut self, memory: &mut [u64], text: &[u8]) -> Request {
@@ -771,16 +1019,31 @@ impl Client for Control {
             Phase::Recalling => self.recalled(memory),
             Phase::Sweeping => self.sweep_on(memory),
             Phase::Loading => {
-                spread_row(memory);
+                desk::spread_row(memory, desk::ROW);
                 self.loaded(memory)
             }
             Phase::Surveying => self.survey_on(memory),
             Phase::LayingFile => self.lay_tree(memory, self.page),
-            Phase::LayingTree => self.publish(memory, self.page, self.root),
-            Phase::Publishing => Request::Done,
+            Phase::LayingTree => {
+                let tip = desk::head_word(memory, 3);
+                self.publish(memory, self.page, self.root, tip)
+            }
+            Phase::Publishing => self.published(memory),
             Phase::Opening => self.show_file(memory),
             Phase::Showing => Request::Done,
             Phase::Comparing => self.compare(memory),
+            Phase::OpeningTip => self.tip_came(memory),
+            Phase::LoadingOld => {
+                desk::spread_row(memory, desk::OLD_ROW);
+                self.against(memory)
+            }
+            Phase::Summing => self.sum_came(memory),
+            Phase::LayingCommit => {
+                let root = desk::head_word(memory, 2);
+                self.publish(memory, self.page, root, self.root)
+            }
+            Phase::OpeningLogged => self.logged(memory),
+            Phase::ShowingLogged => self.log_from(self.root),
         }
     }
 }

@@ -10,6 +10,7 @@ pub mod control;
 mod desk;
 pub mod laws;
 pub mod promise;
+mod spelling;
 
 use control::Control;
 use pages::bytes::number;

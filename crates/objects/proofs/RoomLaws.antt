@@ -1,7 +1,7 @@
 -- Room: the bytes of what is live against what it weighs. Assumes nothing.
 use Rattle.std.proofs.Common.{◌≡◌, ℕ, ◌+◌, ◌-◌, ◌*◌, ◌<◌, ◌≤◌, Bool, true, false, not, eqb, ltb, ◌⊎◌, List, [], ◌∷◌, ◌++◌, length, get_or, drop, sym, refl, ap, ◌∙◌, subst, inl, inr, mul-add, arith, length-append}
 use Rattle.std.proofs.lemmas.List.{get_or-take, get_or-drop, get_or-append_right}
-use Rattle.std.proofs.lemmas.Bool.{eq-eqb, ne_eqb, eqb-true, ltb-true, and_parts, false≢true}
+use Rattle.std.proofs.lemmas.Bool.{eq-eqb, ne_eqb, eqb-true, eqb-false, ltb-true, and_parts, false≢true}
 use Rattle.std.proofs.lemmas.Bool.Decides.{Decides-eqb}
 use Rattle.pages.specs.Lists.{pick, has, every, each, those, flat, added_up}
 use Rattle.pages.specs.Object.{size_of, kind_of, own_weight, references_of, object_at, size_in}
@@ -210,8 +210,11 @@ module _ (t roots ls : List ℕ) (work : ℕ) (lives : Lives t roots ls) (roomy 
 
       less : (s : ℕ) → Live t roots s × (kind_of (object_at t s) ≡ 3) → tree (first s) ≤ noted s
       less s (l, e) =
-          let n : noted_weight (object_at t s) ≡ tree_weight_in (object_at t (first s)) = roomy.tree_noted s l e in
-          pick_both (λ v. v + 80 ≤ noted_weight (object_at t s) + 105) (eqb (first s) 0) 0 (tree_weight_in (object_at t (first s))) (λ _. omega arith) (λ _. omega arith)
+          pick_both (λ v. v + 80 ≤ noted_weight (object_at t s) + 105) (eqb (first s) 0) 0 (tree_weight_in (object_at t (first s))) (λ _. omega arith)
+          (λ n.
+          let some : first s ≡ 0 → ⊥ = eqb-false (first s) 0 n in
+          let w : noted_weight (object_at t s) ≡ tree_weight_in (object_at t (first s)) = roomy.tree_noted s l e (omega (arith, some)) in
+          omega arith)
 
   -- there are no more files than entries in trees
   files_named : added_up (λ _. 1) (of 1) ≤ added_up refs (of 2)

@@ -26,7 +26,7 @@ pub record Built (o : List ℕ) : Type 0 where
   pub commit : kind_of o ≡ 3 → 8 * size_of o + 161 + noted_weight o ≤ own_weight o
   pub name : kind_of o ≡ 4 → (own_weight o ≡ 128) × (size_of o ≤ 16)
 
--- what is live is built so; a tree is the one in work or some live commit's, which notes its weight; a file is in some live tree
+-- what is live is built so; a tree is the one in work or some live commit's, which notes its weight if it has one; a file is in some live tree
 pub record Roomy (t roots : List ℕ) (work : ℕ) : Type 0 where
   pub sized : (r : ℕ) → Live t roots r → 1 ≤ size_in (heading_at t r)
   pub built : (r : ℕ) → Live t roots r → Built (object_at t r)
@@ -34,7 +34,7 @@ pub record Roomy (t roots : List ℕ) (work : ℕ) : Type 0 where
       (r : ℕ) → Live t roots r → kind_of (object_at t r) ≡ 2 →
       (r ≡ work) ⊎ ((s : ℕ) × Live t roots s × (kind_of (object_at t s) ≡ 3) × (slice_index (references_of (object_at t s)) 0 ≡ r))
   pub tree_noted :
-      (s : ℕ) → Live t roots s → kind_of (object_at t s) ≡ 3 →
+      (s : ℕ) → Live t roots s → kind_of (object_at t s) ≡ 3 → 1 ≤ slice_index (references_of (object_at t s)) 0 →
       noted_weight (object_at t s) ≡ tree_weight_in (object_at t (slice_index (references_of (object_at t s)) 0))
   pub file_named :
       (r : ℕ) → Live t roots r → kind_of (object_at t r) ≡ 1 →

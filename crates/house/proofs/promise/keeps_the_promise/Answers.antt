@@ -1,5 +1,5 @@
-use Rattle.house.proofs.Keeping.{whole_sheets}
+use Rattle.house.proofs.Keeping.{whole_noting}
 use Rattle.house.proofs.promise.keeps_the_promise.Goals as goal
 
 pub returns : goal.returns
-returns c = whole_sheets
+returns c = whole_noting

@@ -1,16 +1,10 @@
-use Rattle.house.proofs.ControlSteps.{no_room, file_is_new, file_is_there}
+use Rattle.house.proofs.ControlSteps.{no_room, room_left}
 use Rattle.house.proofs.control.Control.settle.Goals as goal
 
 pub returns-then-kept-quarter : goal.returns-then-kept-quarter
 returns-then-kept-quarter c =
     no_room c.args.self.now c.args.memory.now c.kept.result c.quarter.result c.refuse.result c.kept.ensures c.quarter.ensures c.if-kept-quarter.true c.refuse.ensures
 
-pub returns-then-self-eq0 : goal.returns-then-self-eq0
-returns-then-self-eq0 c =
-    file_is_new c.args.self.now c.args.memory.now c.kept.result c.quarter.result c.head_word-page.result _ c.kept.ensures c.quarter.ensures c.if-kept-quarter.false c.if-self-eq0.true
-    c.head_word-page.ensures c.lay_file.ensures
-
 pub returns : goal.returns
 returns c =
-    file_is_there c.args.self.now c.args.memory.now c.name_file.new.memory c.kept.result c.quarter.result c.head_word-page.result _ c.kept.ensures c.quarter.ensures c.if-kept-quarter.false
-    c.if-self-eq0.false c.head_word-page.ensures c.name_file.ensures c.lay_tree.ensures
+    room_left c.args.self.now c.args.memory.now c.kept.result c.quarter.result _ c.kept.ensures c.quarter.ensures c.if-kept-quarter.false c.settled.ensures

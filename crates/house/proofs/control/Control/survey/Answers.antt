@@ -12,5 +12,6 @@ returns c =
     c.surveyed.ensures
     ∙ ap (walked (surveying k) (surveyed k))
     (c.seek-request.ensures
-    ∙ ap₂ sought (window_is k m _ _ _ _ _ first c.head_word-last.ensures c.saturating_sub.ensures c.saturating_mul.ensures c.saturating_mul-2.ensures)
-    (kept_begun m c.mark_kept.new.memory _ _ first c.saturating_mul-3.ensures c.mark_kept.ensures))
+    ∙ ap₂ sought
+    (window_is k m _ _ _ _ _ _ first c.head_word-last.ensures c.saturating_sub.ensures c.saturating_mul.ensures c.saturating_mul-2.ensures c.kind_sought.ensures)
+    (kept_begun k.task m c.mark.new.memory _ _ first c.saturating_mul-3.ensures c.mark.ensures))

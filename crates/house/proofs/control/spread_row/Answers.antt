@@ -1,7 +1,0 @@
-use Rattle.house.proofs.ControlLaws.{spread_behind_front}
-use Rattle.house.proofs.control.spread_row.Goals as goal
-
-pub returns : goal.returns
-returns c =
-    let s = c.split_at_mut-front in
-    spread_behind_front c.args.memory.now s.result.0.now s.result.1.now c.spread_behind.new.behind s.ensures.front s.ensures.back c.spread_behind.ensures

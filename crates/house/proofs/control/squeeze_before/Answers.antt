@@ -1,5 +1,0 @@
-use Rattle.std.proofs.Common.{◌++◌, drop, ap}
-use Rattle.house.proofs.control.squeeze_before.Goals as goal
-
-pub returns-clause-front : goal.returns-clause-front
-returns-clause-front c = ap (λ x. x ++ drop 41088 c.args.front.now) c.squeeze.ensures.after
