@@ -31,10 +31,10 @@ use Rattle.commands.specs.declared.command.Command.TheVariants.{WriteFile, DropF
 use Rattle.history.specs.Book.{Sum}
 use Rattle.house.specs.declared.control.Control.{Control}
 use Rattle.house.specs.declared.control.Phase.{Phase}
-use Rattle.house.specs.declared.control.Phase.TheVariants.{LayingCommit, LayingFile, LayingTree, OpeningTip}
+use Rattle.house.specs.declared.control.Phase.TheVariants.{LayingFile, LayingTree, OpeningTip}
 use Rattle.house.specs.declared.control.Task.{Task}
 use Rattle.house.specs.declared.control.Task.TheVariants.{Nothing, Write, Drop, Read, Status, Leave, Note, Log, View}
-use Rattle.house.specs.Control.{again, against, ask_tip, at_phase, bytes_at, commit_in, commit_put, control_resumes, counted, desk_end, entry_weight, file_in, head_word, hearing, kept, kind_sought, laid_from, lay_commit, lay_file, lay_tree, layout_in, lays, load, loaded, named, path_key, path_put, publish, recalled, reference_at, resumed, row_at, row_of, row_words, said_of, settled, squeezed_in, started, survey, surveyed, surveying, survey_roots, sum_key, sum_next, summed, sweeping, tight, tree_put, under_tip, window_of, with_row}
+use Rattle.house.specs.Control.{again, against, ask_tip, at_phase, bytes_at, commit_put, control_resumes, counted, desk_end, entry_weight, file_in, head_word, hearing, kept, kind_sought, laid_from, lay_commit, lay_file, lay_tree, layout_in, lays, load, loaded, named, path_key, path_put, publish, recalled, reference_at, resumed, row_at, row_of, row_words, said_of, settled, squeezed_in, started, survey, surveyed, surveying, survey_roots, sum_key, sum_next, summed, sweeping, tight, tree_put, under_tip, window_of, with_row}
 use Rattle.house.proofs.ControlLaws.{row_written}
 
 -- A NUMBER THAT MAY BE 0

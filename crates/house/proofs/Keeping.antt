@@ -323,6 +323,11 @@ steady sum sums = (
   λ m ev. (keeps_length (control_client sum) (lawful sum sums) m ev, keeps_small (control_client sum) (lawful sum sums) m ev),
 )
 
+-- a book with no commit has none with two parents
+none_single : (k : ℕ) → length (nth [] k).parents ≤ 1
+unfolding nth
+none_single k = omega arith
+
 pub whole_noting : Whole noting own
 unfolding Whole own Simulated StaysFine all_bytes
 whole_noting sum sums = (
@@ -335,7 +340,7 @@ whole_noting sum sums = (
       (obligations (control_client sum) (lawful sum sums) (Remembers pages) (Simple houses) (Stands sum pages) s n (kept s n refl e low high few sums) refl few e (omega arith)) is ok
       (record {
         fine = stays_fine.0 houses;
-        single = λ k. omega arith;
+        single = none_single;
         many = length_so_many houses empty_clone;
         bare = λ c. ([], omega arith, all_empty houses c ∙ ap (λ (x : Clone). keeping x.work []) (sym (all_empty houses c)));
       })

@@ -1,9 +1,9 @@
 // The house as a client of the tape, for the commands that keep sheets in work and note versions of them.
-ghost use Rattle.std.specs.Prelude.{◌≡◌, ◌+◌, ◌-◌, ◌*◌, ◌<◌, ◌≤◌, ◌&&◌, ◌==◌, ℕ, List, length, take, drop};
+ghost use Rattle.std.specs.Prelude.{◌≡◌, ◌-◌, ◌*◌, ◌<◌, ◌≤◌, ◌&&◌, ℕ, List, length, take};
 ghost use Rattle.commands.specs.Command.{show_file};
 ghost use Rattle.commands.specs.Meaning.{meaning};
 ghost use Rattle.commands.specs.Refusal.{number_of};
-ghost use Rattle.house.specs.Control.{again, against, at_phase, bytes_at, changed, compare, control_client, desk_end, file_came, found_file, head_word, hearing, heard_of, kept as kept_of, kind_sought, laid_from, lay_commit, lay_file, lay_tree, layout_in, lays, load, load_old, loaded, log_from, logged, more_kept, named_after, opened, own_cells, phase_code, phase_in, publish, published_by, recalled, said_of, settled, spelled_in, started, sum_came, sum_key, sum_next, summed, survey, surveyed, surveying, survey_roots, sweeping, task_code, task_in, the_branch, tight, tip_came, under_tip};
+ghost use Rattle.house.specs.Control.{again, against, at_phase, changed, compare, control_client, desk_end, file_came, found_file, hearing, heard_of, kept as kept_of, kind_sought, laid_from, lay_commit, lay_file, lay_tree, layout_in, lays, load, load_old, loaded, log_from, logged, more_kept, named_after, opened, own_cells, phase_code, phase_in, publish, published_by, recalled, said_of, settled, spelled_in, started, sum_came, sum_key, sum_next, summed, survey, surveyed, surveying, survey_roots, sweeping, task_code, task_in, the_branch, tight, tip_came, under_tip};
 ghost use Rattle.house.specs.Entry.{own_sum};
 ghost use Rattle.objects.specs.Layouts.{commit_read, file_read};
 ghost use Rattle.objects.specs.Marking.{asked_on, begun, walked, went_on};
@@ -14,8 +14,7 @@ ghost use Rattle.pages.specs.Machine.{asked, buffer_words, capped};
 ghost use Rattle.pages.specs.Words.{over};
 ghost use Rattle.pages.specs.declared.machine.Request.TheVariants.{Object, Recall, Refuse as RefuseWith};
 
-use crate::desk;
-use crate::spelling;
+use crate::{desk, spelling};
 use commands::{Command, Refusal, parse};
 use objects::cells::{sweep_cells, sweep_in, walk_cells, walk_in};
 use objects::mark::{Key, Walk};
@@ -360,8 +359,12 @@ impl Control {
         let Some(words) = desk::squeeze_row(memory) else {
             return refuse(Refusal::NotKnown);
         };
-        let root = desk::reference_at(page);
-        self.lay(Phase::LayingTree, page, words as u64, root)
+        self.lay(
+            Phase::LayingTree,
+            page,
+            words as u64,
+            desk::reference_at(page),
+        )
     }
 
     // The file is laid, and named in the row.
@@ -401,8 +404,7 @@ impl Control {
         let Some(words) = layouts::compose_commit(memory, commit, desk::BYTES) else {
             return refuse(Refusal::NotKnown);
         };
-        let tip = desk::reference_at(page);
-        self.lay(Phase::LayingCommit, page, words, tip)
+        self.lay(Phase::LayingCommit, page, words, desk::reference_at(page))
     }
 
     // What comes to what is live, if what was looked for is not there.
@@ -761,7 +763,7 @@ impl Control {
         requires { desk_end ≤ length memory.old }
         ensures { asked self.new memory.new result ≡ under_tip own_sum self.old memory.old root weight Task.Leave }
     {
-        desk::weigh_row(memory, weight);
+        desk::start_row(memory, desk::ROW, weight);
         self.root = root;
         self.survey(memory)
     }

@@ -1,6 +1,6 @@
 // Where a command's things stand in memory, behind what marking and sweeping need, and how they are put there, moved and read.
 ghost use Rattle.std.specs.Prelude.{◌≡◌, ◌+◌, ◌*◌, ◌<◌, ◌≤◌, [], ◌∷◌, ◌++◌, length, min, take, drop};
-ghost use Rattle.house.specs.Control.{desk_end, emptied, entry_weight, head_word, new_head, named, path_key, path_put, reference_at, row_at, row_of, row_words, squeezed_in, sum_at};
+ghost use Rattle.house.specs.Control.{desk_end, emptied, entry_weight, head_word, new_head, named, path_key, path_put, reference_at, row_of, row_words, squeezed_in, sum_at};
 ghost use Rattle.objects.specs.Layouts.{words_for};
 ghost use Rattle.objects.specs.Marking.{begun, key_words, with_references};
 ghost use Rattle.objects.specs.Plan.{map_of, plan_end, with_map};
@@ -97,12 +97,12 @@ pub fn name_file(memory: &mut [u64], reference: u64)
     let _ = put_key(&mut memory[ROW..ROW_END], &key, weight, reference);
 }
 
-// An empty tree's row, but for its weight.
-pub fn weigh_row(memory: &mut [u64], weight: u64)
-    requires { desk_end ≤ length memory.old }
-    ensures { memory.new ≡ over row_at (0 ∷ weight ∷ []) memory.old }
+// A row without files that says to weigh so much.
+pub fn start_row(memory: &mut [u64], at: usize, weight: u64)
+    requires { at + 2 ≤ length memory.old }
+    ensures { memory.new ≡ over at (0 ∷ weight ∷ []) memory.old }
 {
-    memory[ROW..ROW + 2].copy_from_slice(&[0, weight]);
+    memory[at..at + 2].copy_from_slice(&[0, weight]);
 }
 
 // An empty tree's row.
@@ -110,7 +110,7 @@ pub fn empty_row(memory: &mut [u64], at: usize)
     requires { at + 2 ≤ length memory.old }
     ensures { memory.new ≡ emptied at memory.old }
 {
-    memory[at..at + 2].copy_from_slice(&[0, 0]);
+    start_row(memory, at, 0);
 }
 
 // The reference of an object that starts at a page.

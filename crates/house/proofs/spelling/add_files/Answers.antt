@@ -1,7 +1,5 @@
-use Rattle.std.proofs.Common.{◌++◌, length, ap, ap₂, ◌∙◌, append_assoc}
-use Rattle.pages.specs.Bytes.{eight}
+use Rattle.std.proofs.Common.{ap, ◌∙◌}
 use Rattle.store.specs.Running.{added, fresh}
-use Rattle.house.specs.Control.{files_spelled}
 use Rattle.house.proofs.SpelledLaws.{files_fed}
 use Rattle.house.proofs.spelling.add_files.Goals as goal
 

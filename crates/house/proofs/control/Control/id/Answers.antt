@@ -1,4 +1,4 @@
-use Rattle.std.proofs.Common.{◌/◌, ◌+◌, [], sym, ap, ◌∙◌, arith}
+use Rattle.std.proofs.Common.{[], ap, ◌∙◌, arith}
 use Rattle.house.specs.Control.{sum_key}
 use Rattle.house.specs.Entry.{own_sum}
 use Rattle.house.proofs.SpelledLaws.{all_spelled, sums_long, words_end}

@@ -22,4 +22,4 @@ returns c =
     let m₁ = c.compose_commit.new.memory in
     commit_answered k c.lay.new.self c.args.memory.now m₁ c.args.page c.layout-commit.result c.compose_commit.result c.lay.result c.layout-commit.ensures c.compose_commit.ensures.answer
     c.compose_commit.ensures.memory
-    (c.lay.ensures m₁ ∙ ap (laid_from LayingCommit k m₁ c.args.page c.in-Some.words) c.reference_at-tip.ensures ∙ ap (commit_put k m₁ c.args.page) (sym c.in-Some.is))
+    (c.lay.ensures m₁ ∙ ap (laid_from LayingCommit k m₁ c.args.page c.in-Some.words) c.reference_at.ensures ∙ ap (commit_put k m₁ c.args.page) (sym c.in-Some.is))

@@ -12,5 +12,5 @@ lay-requires c = tree_words c.args.memory.now (row_of c.args.memory.now) c.in-So
 
 pub returns : goal.returns
 returns c =
-    tree_some c.args.self.now c.lay.new.self c.args.memory.now c.squeeze_row.new.memory c.args.page c.in-Some.words c.reference_at-root.result c.squeeze_row.result c.lay.result c.in-Some.is
-    c.squeeze_row.ensures.answer c.squeeze_row.ensures.memory c.reference_at-root.ensures (c.lay.ensures c.squeeze_row.new.memory)
+    tree_some c.args.self.now c.lay.new.self c.args.memory.now c.squeeze_row.new.memory c.args.page c.in-Some.words c.reference_at.result c.squeeze_row.result c.lay.result c.in-Some.is
+    c.squeeze_row.ensures.answer c.squeeze_row.ensures.memory c.reference_at.ensures (c.lay.ensures c.squeeze_row.new.memory)

@@ -1,5 +1,4 @@
 use Rattle.std.proofs.Common.{ap, ◌∙◌}
-use Rattle.pages.specs.Machine.{asked}
 use Rattle.house.specs.Control.{publish}
 use Rattle.house.proofs.ControlSteps.{no_tip, some_tip}
 use Rattle.house.proofs.control.Control.leave.Goals as goal

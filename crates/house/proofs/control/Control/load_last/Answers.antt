@@ -1,6 +1,3 @@
-use Rattle.std.proofs.Common.{ap, ◌∙◌}
-use Rattle.pages.specs.Machine.{asked}
-use Rattle.house.specs.Control.{publish}
 use Rattle.house.proofs.ControlSteps.{no_tip, some_tip}
 use Rattle.house.proofs.control.Control.load_last.Goals as goal
 
