@@ -164,6 +164,8 @@ pub fn live(heap: Global, houses: u64) -> Result<Counts, AllocError> {
             .try_collect(heap)?;
         let mut trial = Trial::new(heap, PAGES, commits, paths)?;
         trial.note_some(commits)?;
+        // Those before the day are not counted.
+        trial.rig.sweeps = 0;
         let day = planned(&mut trial)?;
         let mut spare = Rig::new(heap, PAGES)?;
         day.live(&mut trial, &mut spare)?;

@@ -470,7 +470,7 @@ impl Trial {
         self.is_too_much(b"one more", &text)
     }
 
-    // At a house without room for a commit: what differs can't be noted, but left, and everything can be asked.
+    // At a house without room for a commit: what differs can't be noted, but left, and everything can be asked; so it is after many more changes.
     fn stand_full(&mut self) -> Result<(), AllocError> {
         if let Some(path) = self.model.path_at(0)? {
             self.must(Command::DropFile(&path), Told::Done)?;
@@ -480,6 +480,12 @@ impl Trial {
         }
         self.power();
         self.must(Command::Leave, Told::Done)?;
-        self.must_refuse(Command::Commit(1, &[]), Refusal::NothingToDo)
+        self.must_refuse(Command::Commit(1, &[]), Refusal::NothingToDo)?;
+        for _ in 0..100 {
+            self.stir(40)?;
+        }
+        self.check()?;
+        self.must(Command::Leave, Told::Done)?;
+        self.check()
     }
 }
