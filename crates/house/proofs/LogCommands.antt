@@ -38,7 +38,7 @@ use Rattle.house.proofs.DeskLaws.{Desk, head_word_is, path_key_is}
 use Rattle.house.proofs.Sheets.{Well, loads_tree, shows_file}
 use Rattle.house.proofs.Versions.{logs}
 use Rattle.house.proofs.ShelfLaws.{as_commit, tip_live, tips_noted, numbered_is, commit_parent_live, tree_files_live, named_files, work_file, work_there, work_is}
-use Rattle.house.proofs.Standing.{Aside, path_aside, find_by_key, find_right, tip_is, Here, Stop as StopAt, End as EndAt, same_after as same_then, stops_shown, stops_before, ends_before, ends_same, comes_out, says, small_spot, tip_tree, tip_tree_live, few_tips, tip_fine, asks_tip, hears}
+use Rattle.house.proofs.Commands.{Aside, path_aside, find_by_key, find_right, tip_is, Here, Stop as StopAt, End as EndAt, same_after as same_then, stops_shown, stops_before, ends_before, ends_same, comes_out, says, small_spot, tip_tree, tip_tree_live, few_tips, tip_fine, asks_tip, hears}
 
 -- from no commit there is no log
 closed_none : (n : ℕ) (b : Book) → closed n b [] ≡ []

@@ -54,7 +54,7 @@ use Rattle.house.proofs.Versions.{version_of, id_long, sums_files, lays_version}
 use Rattle.house.proofs.ShelfLaws.{head_long, root_live, work_is, work_there, named_files, work_file_at, as_commit, commit_key, tree_files_live, tips_noted, tips_once, tip_there, roots_among, work_files_there, live_commit_reached, live_weighs, commits_files, files_weight, commits_weight, keeping_weighs, shelf_grown}
 use Rattle.house.proofs.NewShelf.{shelf_noted}
 use Rattle.house.proofs.SurveyLaws.{sum_by_words}
-use Rattle.house.proofs.Standing.{reserve_small, ids_by, Spot, after_all, Stop, End, stands_in, stops_before, stops_after, ends_before, ends_after, comes_out, says, few_tips, small_spot, file_placed, tip_tree, tip_tree_live, tip_commit, loads, asks_tip, loads_tip, hears}
+use Rattle.house.proofs.Commands.{reserve_small, ids_by, Spot, after_all, Stop, End, stands_in, stops_before, stops_after, ends_before, ends_after, comes_out, says, few_tips, small_spot, file_placed, tip_tree, tip_tree_live, tip_commit, loads, asks_tip, loads_tip, hears}
 
 -- WHAT IS NOTED
 abbrev pub new_version : List ℕ → Tree → ℕ → List ℕ → Commit
