@@ -10,7 +10,7 @@ use Rattle.pages.specs.Object.{kind_of, object_at}
 use Rattle.pages.specs.Crash.{Rows}
 use Rattle.pages.specs.Engine.{bulk_cells}
 use Rattle.pages.specs.Machine.{Asked, asked, capped}
-use Rattle.pages.specs.Tape.{first_page, last_page, published, Window, finishes}
+use Rattle.pages.specs.Tape.{first_page, last_page, Window, finishes}
 use Rattle.pages.specs.declared.machine.Request.TheVariants.{Refuse}
 use Rattle.pages.proofs.ListLaws.{pick_true, pick_false, In, Once, each_alike, in_append, in_left, in_right, in_flat, flat_in, same_test, same_true, same_tells, added_up_alike, added_up_members, distinct_in, in_distinct, once_distinct}
 use Rattle.pages.proofs.WordLaws.{length_over, length_words}
@@ -35,7 +35,7 @@ use Rattle.history.proofs.BackLaws.{back_within, once_back}
 use Rattle.history.proofs.GrowLaws.{id_more, id_noted, grown_noted, noted_front, place_above, back_noted, noted_back, once_noted}
 use Rattle.commands.specs.Command.{Command, commit, spelled, fits, a_text}
 use Rattle.commands.specs.Parse.{parsed}
-use Rattle.house.specs.House.{Plain, Turn, turn, clone_at, no, yes_with, tip, tree_of, ref_of, set_ref, weight, tree_weight}
+use Rattle.house.specs.House.{Plain, Turn, turn, clone_at, no, yes_with, tree_of, ref_of, set_ref, weight, tree_weight}
 use Rattle.house.specs.Facts.{FineTree}
 use Rattle.house.specs.Promise.{told_apart, StillApart, Said, Allowed, KnownAllowed}
 use Rattle.house.specs.Simulation.{Setting}
