@@ -1,5 +1,5 @@
 // A house on its pages, which counts how often they are used and how long each command takes.
-use crate::cost::{Cost, Uses};
+use crate::cost::Cost;
 use crate::disk::Disk;
 use commands::{Command, spell};
 use device::desk::Desk;
@@ -138,8 +138,7 @@ impl<'a> Bench<'a> {
         self.cost.looking = since(self.rt, start)?;
         let told = self.finish(told)?;
         self.cost.all = since(self.rt, start)?;
-        let Uses { done, .. } = &mut self.cost.uses;
-        *done = u64::from(told == Told::Done);
+        self.cost.uses.done = u64::from(told == Told::Done);
         Ok(self.cost)
     }
 }

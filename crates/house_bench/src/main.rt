@@ -135,7 +135,7 @@ impl Day<'_> {
 }
 
 fn main(rt: HostRuntime) -> io::Result<()> {
-    let (disk, size) = match env::args(&rt)?.skip(1).next() {
+    let (disk, size) = match env::args(&rt)?.nth(1) {
         None => (Disk::memory(rt.alloc(), IN_MEMORY.pages)?, IN_MEMORY),
         Some(path) => (Disk::file(&rt, path.as_str(), IN_FILE.pages)?, IN_FILE),
     };
