@@ -2,6 +2,7 @@ pub mod TurnLaws
 pub mod WeightLaws
 pub mod SumLaws
 pub mod FineLaws
+pub mod NamesLaws
 pub mod CarryLaws
 pub mod MorningLaws
 pub mod Simulation
