@@ -190,6 +190,13 @@ def ask(houses, c, line):
         x.work[args[0]] = rest
         x.unsettled = [p for p in x.unsettled if p != args[0]]
         return []
+    if verb == "drop":
+        found(x.work.pop(args[0], None))
+        x.unsettled = [p for p in x.unsettled if p != args[0]]
+        return []
+    if verb == "leave":
+        x.work, x.joining, x.unsettled = dict(x.tip_tree()), None, []
+        return []
     if verb == "commit":
         return x.commit(int(words[1]), rest)
     if verb == "branch":
@@ -247,4 +254,5 @@ def main():
         print("house", c, "keeps", x.weight())
 
 
-main()
+if __name__ == "__main__":
+    main()

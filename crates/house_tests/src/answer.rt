@@ -1,4 +1,5 @@
 // What is answered to a command, and all that can be asked.
+use crate::model::BRANCH;
 use commands::{Command, Refusal};
 use pages::told::Told;
 use std::alloc::{AllocError, Global};
@@ -19,6 +20,14 @@ impl Answer {
             rows: Vec::new(heap),
         }
     }
+
+    // One that is done, and shows one row.
+    pub fn row(heap: Global, row: Vec<u8>) -> Result<Answer, AllocError> {
+        Ok(Answer {
+            end: Told::Done,
+            rows: vec![in heap; row]?,
+        })
+    }
 }
 
 pub fn refused(why: Refusal) -> Told {
@@ -30,7 +39,7 @@ pub trait Answers {
     fn answer(&mut self, command: Command<'_>) -> Result<Answer, AllocError>;
 }
 
-// All that can be asked: what is in work, and what is read at each of these paths.
+// All that can be asked: what is in work, the log, and what stands at each of these paths in work and in the last commit.
 pub fn look<H: Answers>(
     heap: Global,
     house: &mut H,
@@ -38,8 +47,10 @@ pub fn look<H: Answers>(
 ) -> Result<Vec<Answer>, AllocError> {
     let mut seen = Vec::new(heap);
     seen.push(house.answer(Command::Status)?)?;
+    seen.push(house.answer(Command::History)?)?;
     for path in paths {
         seen.push(house.answer(Command::ReadFile(path.as_slice()))?)?;
+        seen.push(house.answer(Command::ShowFile(BRANCH, path.as_slice()))?)?;
     }
     Ok(seen)
 }

@@ -1,9 +1,12 @@
-// A house beside an ordinary map: full to the last byte, with as many files as there may be, and stopped at every act.
+// A house beside an ordinary map and a list of commits: a morning with true ids, houses full to the last byte of files and of commits, as many files as
+// there may be, and stops at every act.
 #![tactic(auto)]
 
 mod answer;
+mod day;
 mod many;
 mod model;
+mod morning;
 mod random;
 mod rig;
 mod trial;
@@ -49,6 +52,20 @@ fn stumble(heap: Global, trials: u64, rounds: u64) -> Result<Counts, AllocError>
     Ok(all)
 }
 
+// Small houses that are filled with commits, of few paths and of more.
+fn note(heap: Global) -> Result<Counts, AllocError> {
+    let mut all = Counts::default();
+    for pages in [64u64, 96, 128, 192, 256] {
+        for many in [1, 2, 5, 12] {
+            let seed = pages.saturating_add(u64::from(many));
+            let mut trial = Trial::new(heap, pages, seed, paths(heap, many)?)?;
+            trial.note_all()?;
+            all += trial.counts();
+        }
+    }
+    Ok(all)
+}
+
 // Says how long something took.
 fn print_time(rt: &HostRuntime, start: Instant) -> std::io::Result<()> {
     let time = start.elapsed(rt)?.as_millis();
@@ -56,6 +73,15 @@ fn print_time(rt: &HostRuntime, start: Instant) -> std::io::Result<()> {
 }
 
 fn run(rt: &HostRuntime) -> anyhow::Result<()> {
+    let start = Instant::now(rt)?;
+    let Counts {
+        commands,
+        commits,
+        wrong,
+        ..
+    } = morning::work(rt.alloc())?;
+    println!(rt; "a morning: {commands} commands, {commits} commits, {wrong} wrong")?;
+    print_time(rt, start)?;
     let start = Instant::now(rt)?;
     let Counts {
         commands,
@@ -72,13 +98,14 @@ fn run(rt: &HostRuntime) -> anyhow::Result<()> {
     let start = Instant::now(rt)?;
     let Counts {
         writes,
+        commits,
         too_many,
         sweeps,
         wrong,
         ..
     } = many::crowd(rt.alloc())?;
     println!(rt;
-        "many files: {writes} writes, {too_many} were too many, {sweeps} sweeps, {wrong} wrong"
+        "many files: {writes} writes, {too_many} were too many, {commits} commits, {sweeps} sweeps, {wrong} wrong"
     )?;
     print_time(rt, start)?;
     let start = Instant::now(rt)?;
@@ -96,6 +123,38 @@ fn run(rt: &HostRuntime) -> anyhow::Result<()> {
     } = stumble(rt.alloc(), 12, 4)?;
     println!(rt;
         "stops: {commands} commands, {no_room} had no room, {sweeps} sweeps: {stops} stops, {old} came up as before, {new} as after, {same} where nothing was to change, {again} were said again, {wrong} wrong"
+    )?;
+    print_time(rt, start)?;
+    let start = Instant::now(rt)?;
+    let Counts {
+        commands,
+        commits,
+        nothing_new,
+        no_room,
+        last_bytes,
+        sweeps,
+        wrong,
+        ..
+    } = note(rt.alloc())?;
+    println!(rt;
+        "full logs: {commands} commands, {commits} commits, {last_bytes} filled a house to its last byte, {nothing_new} had nothing new, {no_room} commands had no room, {sweeps} sweeps, {wrong} wrong"
+    )?;
+    print_time(rt, start)?;
+    let start = Instant::now(rt)?;
+    let Counts {
+        commands,
+        commits,
+        sweeps,
+        stops,
+        old,
+        new,
+        same,
+        again,
+        wrong,
+        ..
+    } = day::live(rt.alloc(), 13)?;
+    println!(rt;
+        "stopped days: {commands} commands, {commits} commits, {sweeps} sweeps: {stops} stops, {old} came up as before, {new} as after, {same} where nothing was to change, {again} days went on, {wrong} wrong"
     )?;
     print_time(rt, start)?;
     Ok(())

@@ -20,33 +20,43 @@ pub struct Counts {
     // Refused for room, and for too many files.
     pub no_room: u64,
     pub too_many: u64,
+    // Commits that were made, commits where nothing was new, and those that filled a house to its last byte.
+    pub commits: u64,
+    pub nothing_new: u64,
+    pub last_bytes: u64,
     pub sweeps: u64,
     // Stops, and how the house came up: as before, as after, or as both where nothing was to change.
     pub stops: u64,
     pub old: u64,
     pub new: u64,
     pub same: u64,
-    // Commands that were said again after a stop.
+    // Commands that were said again after a stop, or days that went on.
     pub again: u64,
     pub wrong: u64,
 }
 
-fn up(count: &mut u64) {
+pub fn up(count: &mut u64) {
     *count = count.saturating_add(1);
 }
 
 impl Counts {
-    fn expect(&mut self, right: bool) {
+    pub fn expect(&mut self, right: bool) {
         if !right {
             up(&mut self.wrong);
         }
     }
 
     // A command that ended so.
-    fn ended(&mut self, command: Command<'_>, end: Told) {
+    pub fn ended(&mut self, command: Command<'_>, end: Told) {
         up(&mut self.commands);
         if matches!(command, Command::WriteFile(..)) {
             up(&mut self.writes);
+        }
+        if matches!(command, Command::Commit(..)) && end == Told::Done {
+            up(&mut self.commits);
+        }
+        if end == refused(Refusal::NothingToDo) {
+            up(&mut self.nothing_new);
         }
         if end == refused(Refusal::NoRoom) {
             up(&mut self.no_room);
@@ -63,6 +73,9 @@ impl AddAssign for Counts {
         self.writes = self.writes.saturating_add(more.writes);
         self.no_room = self.no_room.saturating_add(more.no_room);
         self.too_many = self.too_many.saturating_add(more.too_many);
+        self.commits = self.commits.saturating_add(more.commits);
+        self.nothing_new = self.nothing_new.saturating_add(more.nothing_new);
+        self.last_bytes = self.last_bytes.saturating_add(more.last_bytes);
         self.sweeps = self.sweeps.saturating_add(more.sweeps);
         self.stops = self.stops.saturating_add(more.stops);
         self.old = self.old.saturating_add(more.old);
@@ -84,19 +97,19 @@ struct Outlook<'a> {
 
 #[derive(Drop)]
 pub struct Trial {
-    heap: Global,
-    rig: Rig,
+    pub heap: Global,
+    pub rig: Rig,
     pub model: Model,
     random: Random,
     // The paths that are written, and looked at.
-    paths: Vec<Vec<u8>>,
+    pub paths: Vec<Vec<u8>>,
     // A second rig for what comes after a stop, where each act of a command is tried with one.
     spare: Option<Rig>,
-    counts: Counts,
+    pub counts: Counts,
 }
 
 // The numbers of what a stop is to leave of so many waiting writes: all that there are, or some where more than four wait.
-fn outcomes(heap: Global, waiting: usize) -> Result<Vec<u64>, AllocError> {
+pub fn outcomes(heap: Global, waiting: usize) -> Result<Vec<u64>, AllocError> {
     let all = 3u64.saturating_pow(waiting.min(40) as u32);
     if waiting <= 4 {
         return (0..all).collect(heap);
@@ -147,23 +160,35 @@ impl Trial {
 
     // COMMANDS
 
-    // Says a command to both: how it ended.
-    pub fn say(&mut self, command: Command<'_>) -> Result<Told, AllocError> {
-        let end = match self.spare.take() {
+    // Says a command to both: what the house answers.
+    fn ask(&mut self, command: Command<'_>) -> Result<Answer, AllocError> {
+        let got = match self.spare.take() {
             Some(mut spare) => {
-                let end = self.say_watched(&mut spare, command)?;
+                let got = self.ask_watched(&mut spare, command)?;
                 self.spare = Some(spare);
-                end
+                got
             }
             None => {
                 let wanted = self.model.answer(command)?;
                 let got = self.rig.answer(command)?;
                 self.counts.expect(got == wanted);
-                got.end
+                got
             }
         };
-        self.counts.ended(command, end);
-        Ok(end)
+        self.counts.ended(command, got.end);
+        Ok(got)
+    }
+
+    // Says a command to both: how it ended.
+    pub fn say(&mut self, command: Command<'_>) -> Result<Told, AllocError> {
+        Ok(self.ask(command)?.end)
+    }
+
+    // Says a command that has to be answered so.
+    pub fn must_answer(&mut self, command: Command<'_>, wanted: &Answer) -> Result<(), AllocError> {
+        let got = self.ask(command)?;
+        self.counts.expect(got == *wanted);
+        Ok(())
     }
 
     // Says a command that has to end so.
@@ -189,7 +214,7 @@ impl Trial {
 
     // STOPS
 
-    fn say_watched(&mut self, spare: &mut Rig, command: Command<'_>) -> Result<Told, AllocError> {
+    fn ask_watched(&mut self, spare: &mut Rig, command: Command<'_>) -> Result<Answer, AllocError> {
         let old = look(self.heap, &mut self.model, &self.paths)?;
         let wanted = self.model.answer(command)?;
         let new = look(self.heap, &mut self.model, &self.paths)?;
@@ -209,7 +234,7 @@ impl Trial {
         }
         let got = run.answer();
         self.counts.expect(got == outlook.wanted);
-        Ok(got.end)
+        Ok(got)
     }
 
     // A stop now, with each outcome.
@@ -276,12 +301,12 @@ impl Trial {
         }
     }
 
-    // Something at random: a small file, a copy of another one, a file less, or nothing left.
-    fn stir(&mut self) -> Result<(), AllocError> {
+    // Something at random: a file of fewer bytes than that, a copy of another one, a file less, or work left.
+    fn stir(&mut self, bytes: u64) -> Result<(), AllocError> {
         let path = self.some_path()?;
         match self.random.below(16) {
             0..=5 => {
-                let size = self.random.below(300);
+                let size = self.random.below(bytes);
                 let text = self.random.text(self.heap, size)?;
                 self.say(Command::WriteFile(&path, &text))?;
             }
@@ -361,9 +386,100 @@ impl Trial {
             self.power();
         }
         for _ in 0..self.random.below(4) {
-            self.stir()?;
+            self.stir(300)?;
         }
         self.fill()?;
         self.replace()
+    }
+
+    // VERSIONS
+
+    // A commit of fewer than 40 words' bytes, with a stamp that may be older than others.
+    fn note(&mut self) -> Result<Told, AllocError> {
+        let size = self.random.below(40);
+        let words = self.random.text(self.heap, size)?;
+        let stamp = self.random.below(1_000);
+        self.say(Command::Commit(stamp, &words))
+    }
+
+    // So many commits, each of a small file that is new.
+    pub fn note_some(&mut self, commits: u64) -> Result<(), AllocError> {
+        for _ in 0..commits {
+            let path = self.some_path()?;
+            let text = self.random.text(self.heap, 20)?;
+            self.fits(&path, &text)?;
+            self.must(Command::Commit(1, b"before"), Told::Done)?;
+        }
+        Ok(())
+    }
+
+    // Commits one after another, until there is no room for one more.
+    pub fn note_all(&mut self) -> Result<(), AllocError> {
+        for _ in 0..1_000 {
+            for _ in 0..self.random.below(4) {
+                self.stir(40)?;
+            }
+            if self.note()? == refused(Refusal::NoRoom) {
+                break;
+            }
+            if self.random.once_in(4) {
+                self.check()?;
+            }
+            if self.random.once_in(8) {
+                self.power();
+            }
+        }
+        self.check()?;
+        self.note_last()?;
+        self.stand_full()
+    }
+
+    // Drops files from work until there is room for a commit: of how many bytes of words at most.
+    fn make_room_to_note(&mut self) -> Result<Option<u64>, AllocError> {
+        for _ in 0..1_000 {
+            let most = self.model.most_words()?;
+            if most.is_some() {
+                return Ok(most);
+            }
+            let Some(path) = self.model.path_at(0)? else {
+                break;
+            };
+            self.must(Command::DropFile(&path), Told::Done)?;
+        }
+        Ok(None)
+    }
+
+    // A commit whose words fill the house to its last byte, if there is room for one; before it, one byte more is refused.
+    fn note_last(&mut self) -> Result<(), AllocError> {
+        let Some(most) = self.make_room_to_note()? else {
+            return Ok(());
+        };
+        if self.model.is_clean() {
+            return Ok(());
+        }
+        let words = self.random.text(self.heap, most)?;
+        let more = self.random.text(self.heap, most.saturating_add(1))?;
+        self.must_refuse(Command::Commit(1, &more), Refusal::NoRoom)?;
+        self.must(Command::Commit(1, &words), Told::Done)?;
+        up(&mut self.counts.last_bytes);
+        let weight = self.model.weight()?;
+        self.counts.expect(weight == self.model.room);
+        self.check()?;
+        self.must_refuse(Command::Commit(1, &words), Refusal::NothingToDo)?;
+        let text = self.random.text(self.heap, 8)?;
+        self.is_too_much(b"one more", &text)
+    }
+
+    // At a house without room for a commit: what differs can't be noted, but left, and everything can be asked.
+    fn stand_full(&mut self) -> Result<(), AllocError> {
+        if let Some(path) = self.model.path_at(0)? {
+            self.must(Command::DropFile(&path), Told::Done)?;
+        }
+        if !self.model.is_clean() && self.model.most_words()?.is_none() {
+            self.must_refuse(Command::Commit(1, &[]), Refusal::NoRoom)?;
+        }
+        self.power();
+        self.must(Command::Leave, Told::Done)?;
+        self.must_refuse(Command::Commit(1, &[]), Refusal::NothingToDo)
     }
 }
