@@ -43,7 +43,7 @@ use Rattle.house.proofs.Simulation.{simulated, length_so_many}
 use Rattle.house.proofs.OnTape.{obligations}
 use Rattle.house.proofs.ControlBounds.{lawful}
 use Rattle.house.proofs.ShelfLaws.{shelf_new, shelf_grown}
-use Rattle.house.proofs.Standing.{Spot, tip_is, leaves, reads, tells, drops, writes_none, writes_full, writes_done}
+use Rattle.house.proofs.Commands.{Spot, tip_is, leaves, reads, tells, drops, writes_none, writes_full, writes_done}
 use Rattle.house.proofs.LogCommands.{tells_log, views}
 use Rattle.house.proofs.NoteCommands.{notes}
 

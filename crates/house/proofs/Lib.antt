@@ -2,6 +2,7 @@ pub mod TurnLaws
 pub mod WeightLaws
 pub mod SumLaws
 pub mod FineLaws
+pub mod NamesLaws
 pub mod CarryLaws
 pub mod MorningLaws
 pub mod Simulation
@@ -12,13 +13,13 @@ pub mod Sheets
 pub mod ControlBounds
 pub mod ControlSteps
 pub mod ControlLaws
-pub mod SpelledLaws
+pub mod FedLaws
 pub mod SpellLaws
 pub mod Versions
 pub mod ShelfLaws
 pub mod NewShelf
 pub mod SurveyLaws
-pub mod Standing
+pub mod Commands
 pub mod LogCommands
 pub mod NoteCommands
 pub mod Keeping

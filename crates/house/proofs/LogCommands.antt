@@ -1,5 +1,5 @@
 -- HISTORY and SHOW of the house that notes versions, on its tape: the branch's log, commit after commit, and a file of the branch's last commit. Assumes nothing.
-use Rattle.std.proofs.Common.{◌≡◌, ℕ, zero, suc, ◌+◌, ◌-◌, ◌*◌, ◌<◌, ◌≤◌, Bool, true, false, eqb, ltb, List, [], ◌∷◌, length, drop, Some, None, Option, sym, refl, ap, ◌∙◌, subst, ap₂, inl, inr, arith, append-nil}
+use Rattle.std.proofs.Common.{◌≡◌, ℕ, zero, suc, ◌+◌, ◌*◌, ◌<◌, ◌≤◌, Bool, true, false, eqb, ltb, List, [], ◌∷◌, length, drop, Some, None, Option, sym, refl, ap, ◌∙◌, subst, ap₂, inl, inr, arith, append-nil}
 use Rattle.std.proofs.lemmas.Bool.{eq-eqb, ne_eqb, lt-ltb, and_parts}
 use Rattle.pages.specs.Lists.{pick, every, each, has, same, none_of}
 use Rattle.pages.specs.Bytes.{all_bytes}
@@ -38,7 +38,7 @@ use Rattle.house.proofs.DeskLaws.{Desk, head_word_is, path_key_is}
 use Rattle.house.proofs.Sheets.{Well, loads_tree, shows_file}
 use Rattle.house.proofs.Versions.{logs}
 use Rattle.house.proofs.ShelfLaws.{as_commit, tip_live, tips_noted, numbered_is, commit_parent_live, tree_files_live, named_files, work_file, work_there, work_is}
-use Rattle.house.proofs.Standing.{Aside, path_aside, find_by_key, find_right, tip_is, Here, Stop as StopAt, End as EndAt, same_after as same_then, stops_shown, stops_before, ends_before, ends_same, comes_out, says, small_spot, tip_tree, tip_tree_live, few_tips, tip_fine, asks_tip, hears}
+use Rattle.house.proofs.Commands.{Aside, path_aside, find_by_key, find_right, tip_is, Here, Stop as StopAt, End as EndAt, same_after as same_then, stops_shown, stops_before, ends_before, ends_same, comes_out, says, small_spot, tip_tree, tip_tree_live, few_tips, tip_fine, asks_tip, hears}
 
 -- from no commit there is no log
 closed_none : (n : ℕ) (b : Book) → closed n b [] ≡ []

@@ -7,7 +7,7 @@ use Rattle.pages.specs.Words.{bytes_of, words}
 use Rattle.pages.specs.Object.{references_in, size_of, kind_of, own_weight, references_of, object_at}
 use Rattle.pages.specs.Tape.{first_page}
 use Rattle.pages.specs.Lists.{pick}
-use Rattle.pages.proofs.ListLaws.{in_has, has_in, each_alike, pick_true, pick_false}
+use Rattle.pages.proofs.ListLaws.{in_has, each_alike, pick_true, pick_false}
 use Rattle.objects.proofs.SweptLaws.{whole_object}
 use Rattle.pages.specs.Tape.{last_page}
 use Rattle.objects.proofs.MarkLaws.{has_cases}
@@ -31,13 +31,13 @@ use Rattle.trees.proofs.StoredLaws.{length_squeezed, length_references}
 use Rattle.trees.proofs.BackAgain.{files_back, data_back, stored_right}
 use Rattle.trees.proofs.ObjectLaws.{stored_objects, stored_bytes}
 use Rattle.trees.proofs.RowParts.{row_stands, row_files}
-use Rattle.history.specs.Book.{Book, Commit, Sum, nth, id}
+use Rattle.history.specs.Book.{Book, Sum, nth, id}
 use Rattle.commands.specs.Command.{a_text}
 use Rattle.house.specs.Control.{pages_of}
 use Rattle.house.specs.House.{weight}
-use Rattle.house.specs.Shelf.{bytes_at, FileAt, TreeAt, WorkAt, CommitAt, Thing, a_file, a_tree, a_commit, Stored, Numbered, work_root, tip_root, tree_named, parent_named, files_named, keeping, Shelf}
+use Rattle.house.specs.Shelf.{bytes_at, FileAt, TreeAt, WorkAt, CommitAt, Thing, a_file, a_tree, a_commit, Stored, Numbered, work_root, tip_root, tree_named, parent_named, keeping, Shelf}
 use Rattle.house.proofs.Sheets.{text_parts, first_names}
-use Rattle.house.proofs.ShelfLaws.{bytes_alike, file_alike, file_kind, named_files, commit_names, stored_part, head_roots, two_roots, root_live, tip_live}
+use Rattle.house.proofs.ShelfLaws.{bytes_alike, file_alike, file_kind, commit_names, stored_part, head_roots, two_roots, root_live, tip_live}
 use Rattle.house.proofs.Versions.{version_of}
 
 -- a number is none or some

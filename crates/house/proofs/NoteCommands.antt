@@ -10,7 +10,7 @@ use Rattle.pages.specs.Object.{kind_of, object_at}
 use Rattle.pages.specs.Crash.{Rows}
 use Rattle.pages.specs.Engine.{bulk_cells}
 use Rattle.pages.specs.Machine.{Asked, asked, capped}
-use Rattle.pages.specs.Tape.{first_page, last_page, published, Window, finishes}
+use Rattle.pages.specs.Tape.{first_page, last_page, Window, finishes}
 use Rattle.pages.specs.declared.machine.Request.TheVariants.{Refuse}
 use Rattle.pages.proofs.ListLaws.{pick_true, pick_false, In, Once, each_alike, in_append, in_left, in_right, in_flat, flat_in, same_test, same_true, same_tells, added_up_alike, added_up_members, distinct_in, in_distinct, once_distinct}
 use Rattle.pages.proofs.WordLaws.{length_over, length_words}
@@ -35,7 +35,7 @@ use Rattle.history.proofs.BackLaws.{back_within, once_back}
 use Rattle.history.proofs.GrowLaws.{id_more, id_noted, grown_noted, noted_front, place_above, back_noted, noted_back, once_noted}
 use Rattle.commands.specs.Command.{Command, commit, spelled, fits, a_text}
 use Rattle.commands.specs.Parse.{parsed}
-use Rattle.house.specs.House.{Plain, Turn, turn, clone_at, no, yes_with, tip, tree_of, ref_of, set_ref, weight, tree_weight}
+use Rattle.house.specs.House.{Plain, Turn, turn, clone_at, no, yes_with, tree_of, ref_of, set_ref, weight, tree_weight}
 use Rattle.house.specs.Facts.{FineTree}
 use Rattle.house.specs.Promise.{told_apart, StillApart, Said, Allowed, KnownAllowed}
 use Rattle.house.specs.Simulation.{Setting}
@@ -54,7 +54,7 @@ use Rattle.house.proofs.Versions.{version_of, id_long, sums_files, lays_version}
 use Rattle.house.proofs.ShelfLaws.{head_long, root_live, work_is, work_there, named_files, work_file_at, as_commit, commit_key, tree_files_live, tips_noted, tips_once, tip_there, roots_among, work_files_there, live_commit_reached, live_weighs, commits_files, files_weight, commits_weight, keeping_weighs, shelf_grown}
 use Rattle.house.proofs.NewShelf.{shelf_noted}
 use Rattle.house.proofs.SurveyLaws.{sum_by_words}
-use Rattle.house.proofs.Standing.{reserve_small, ids_by, Spot, after_all, Stop, End, stands_in, stops_before, stops_after, ends_before, ends_after, comes_out, says, few_tips, small_spot, file_placed, tip_tree, tip_tree_live, tip_commit, loads, asks_tip, loads_tip, hears}
+use Rattle.house.proofs.Commands.{reserve_small, ids_by, Spot, after_all, Stop, End, stands_in, stops_before, stops_after, ends_before, ends_after, comes_out, says, few_tips, small_spot, file_placed, tip_tree, tip_tree_live, tip_commit, loads, asks_tip, loads_tip, hears}
 
 -- WHAT IS NOTED
 abbrev pub new_version : List ℕ → Tree → ℕ → List ℕ → Commit

@@ -1,5 +1,5 @@
 -- How the house that keeps sheets in work goes on its tape, phase by phase, whatever is asked of stops and of the end. Assumes nothing.
-use Rattle.std.proofs.Common.{◌≡◌, ℕ, zero, suc, ◌+◌, ◌-◌, ◌*◌, ◌/◌, ◌<◌, ◌≤◌, min, Bool, true, false, ◌&&◌, eqb, ◌⊎◌, ltb, leb, List, [], ◌∷◌, ◌++◌, length, get_or, take, drop, Some, None, Option, sym, refl, ap, ◌∙◌, subst, subst₂, ap₂, inl, inr, arith, append-nil, length-append, length-drop, length-take}
+use Rattle.std.proofs.Common.{◌≡◌, ℕ, zero, suc, ◌+◌, ◌-◌, ◌*◌, ◌/◌, ◌<◌, ◌≤◌, min, true, false, ◌&&◌, eqb, ◌⊎◌, ltb, leb, List, [], ◌∷◌, ◌++◌, length, get_or, take, drop, Some, None, Option, sym, refl, ap, ◌∙◌, subst, subst₂, ap₂, inl, inr, arith, append-nil, length-append, length-drop, length-take}
 use Rattle.std.proofs.lemmas.List.{take_at, length-take-le, take-append-le, take-take, take-append-drop, drop-append-le, drop-drop, get_or-drop, get_or_append_left, append_assoc}
 use Rattle.std.proofs.lemmas.Bool.{le-ltb, eq-eqb, ne_eqb, ltb-true, le-leb, leb-true, and_parts, and_from}
 use lib.Seq.{take-append-add}
@@ -47,7 +47,7 @@ use Rattle.trees.specs.declared.differences.Place.TheVariants.{New, Changed, Gon
 use Rattle.history.specs.Book.{Sum}
 use Rattle.commands.specs.Command.{a_text}
 use Rattle.house.specs.Control.{against, load_old, published_by, with_old_row, kind_sought, row_at, row_words, path_at, desk_end, row_of, with_row, emptied, head_word, at_phase, controlling, control_resumes, resumed, recalled, started, lays as lays_any, tight, sweeping, again, load, loaded, publish, new_head, pages_of, laid_from, laying, reference_at, squeezed_in, tree_put, lay_tree, named, file_in, lay_file, entry_weight, survey, survey_roots, surveyed, surveying, window_of, bytes_at as bytes_place, old_row_at, old_row_of, compare, compared, comparing, opened, file_came, sum_key}
-use Rattle.house.specs.Shelf.{bytes_at, FileAt, TreeAt, WorkAt, work_root, tip_root, files_named}
+use Rattle.house.specs.Shelf.{bytes_at, FileAt, TreeAt, WorkAt, tip_root, files_named}
 use Rattle.house.specs.declared.control.Control.{Control}
 use Rattle.house.specs.declared.control.Phase.{Phase}
 use Rattle.house.specs.declared.control.Phase.TheVariants.{Recalling, Loading, LayingFile, LayingTree, Publishing, Opening, Showing, Comparing, LoadingOld}

@@ -1,13 +1,13 @@
 -- What a survey tells of a file that is to be written: whether it is live already, and how much is to be kept after it. Assumes nothing.
 use Rattle.std.proofs.Common.{◌≡◌, ℕ, zero, suc, ◌+◌, ◌*◌, ◌≤◌, Bool, true, false, eqb, ◌⊎◌, List, [], ◌∷◌, ◌++◌, length, sym, refl, ap, ◌∙◌, subst, inl, inr, arith}
 use Rattle.std.proofs.lemmas.Bool.{eqb-true, le-leb, ne_eqb, eqb-false, and_parts, false≢true}
-use Rattle.pages.specs.Lists.{pick, or, any, each, has, same, earlier, zeros}
+use Rattle.pages.specs.Lists.{pick, each, has, same, earlier, zeros}
 use Rattle.pages.specs.Bytes.{all_bytes}
 use Rattle.pages.specs.Words.{words, bytes_of}
 use Rattle.pages.specs.Object.{object_at}
-use Rattle.pages.proofs.ListLaws.{In, has_in, in_has, in_append, in_right, each_in, in_each, any_in, any_from, none_any, pick_true, pick_false, pick_both, or_cases, or_left, or_right, same_true, same_from, same_refl, same_not, same_test}
+use Rattle.pages.proofs.ListLaws.{In, has_in, in_has, in_append, in_right, each_in, in_each, pick_true, pick_false, pick_both, same_true, same_from}
 use Rattle.pages.proofs.WordLaws.{bytes_of_words}
-use Rattle.objects.specs.Heap.{Live, root, named, Lives, weights, weight_at, has_key}
+use Rattle.objects.specs.Heap.{Live, root, Lives, weights, has_key}
 use Rattle.objects.specs.Marking.{key_words}
 use Rattle.trees.specs.Tree.{Tree, put}
 use Rattle.trees.specs.Row.{good_path, key_of, room, references, put_in, put_key}
@@ -19,12 +19,11 @@ use Rattle.history.specs.Book.{Book, Sum, nth}
 use Rattle.house.specs.Control.{sum_key}
 use Rattle.history.specs.Laws.{Grown}
 use Rattle.pages.specs.Object.{kind_of}
-use Rattle.pages.specs.Lists.{every}
 use Rattle.objects.specs.Sweeping.{roots_of}
 use Rattle.commands.specs.Command.{a_text}
 use Rattle.house.specs.House.{weight}
 use Rattle.house.specs.Shelf.{bytes_at, FileAt, Stored, Shelf, keeping, work_root, tip_root, files_named}
-use Rattle.house.proofs.ShelfLaws.{file_key, file_kind, as_file, two_roots, numbered_is, numbered_in, numbered_few, Among, CommitThere, FileThere, commits_files, files_weight, commits_weight, stored_part, tip_live, file_live, work_file_at, tips_once, live_file_reached, live_weighs, live_weighs_more, keeping_weighs}
+use Rattle.house.proofs.ShelfLaws.{file_key, file_kind, as_file, numbered_is, numbered_in, numbered_few, Among, CommitThere, FileThere, commits_files, files_weight, commits_weight, stored_part, tip_live, file_live, work_file_at, tips_once, live_file_reached, live_weighs, live_weighs_more, keeping_weighs}
 use Rattle.house.proofs.Sheets.{sum_words}
 
 -- sums of 32 bytes are told apart by their words

@@ -480,7 +480,7 @@ opened k m (Some r) = asked (at_phase Opening k) m (Object (capped (8 * (r - 1))
 abbrev pub found_file : Control → List ℕ → Asked Control
 found_file k m = opened k m (reference_in (found (entries_of (row_of m)) (path_key m)))
 
--- a tree of which the last commit is asked for, where there is one; without it nothing is loaded twice
+-- the branch's commit is asked for, which names its tree
 abbrev pub ask_tip : Control → List ℕ → Asked Control
 ask_tip k m = asked (at_phase OpeningTip k) m (Object (capped (8 * (head_word m 3 - 1))) buffer_words)
 

@@ -6,5 +6,6 @@ pub mod Morning
 pub mod Simulation
 pub mod OnTape
 pub mod Control
+pub mod Names
 pub mod Shelf
 pub mod Entry

@@ -64,7 +64,7 @@ pub record CommitAt (sum : Sum) (b : Book) (number : ℕ → ℕ) (t : List ℕ)
   pub is :
       object_at t r
       ≡ commit_object (tree_named (object_at t r)) (parent_named (object_at t r)) 0 (words 4 (id sum b (number r))) (nth b (number r)).stamp
-        (weight_of (nth b (number r)).tree) (length (nth b (number r)).words) (packed_bytes (nth b (number r)).words)
+      (weight_of (nth b (number r)).tree) (length (nth b (number r)).words) (packed_bytes (nth b (number r)).words)
   pub tree : WorkAt sum t (tree_named (object_at t r)) (nth b (number r)).tree
   pub parent : Numbered number t (parent_named (object_at t r)) (nth b (number r)).parents
 

@@ -1,86 +1,20 @@
-// A house on pages in memory, on which each write comes in at once: how often they are used, and how long commands take.
+// A house on its pages, which counts how often they are used and how long each command takes.
+use crate::cost::Cost;
+use crate::disk::Disk;
 use commands::{Command, spell};
-use device::Page;
 use device::desk::Desk;
 use house::control::Control;
 use pages::bytes::number;
 use pages::told::{Event, Told};
 use std::alloc::{AllocError, Global};
+use std::io;
 use std::time::Instant;
-use std::{fmt, io};
 
 // The longest spelling: a kind, and two rows with their lengths.
 const SPELLING: usize = 65_700;
 
 // More acts than any command takes here.
-const MOST_ACTS: u64 = 1_000_000;
-
-// How often the pages were used, and what was shown and done.
-#[derive(Clone, Copy, Default)]
-pub struct Uses {
-    reads: u64,
-    writes: u64,
-    flushes: u64,
-    rows: u64,
-    sweeps: u64,
-    done: u64,
-}
-
-impl Uses {
-    pub fn since(self, before: Uses) -> Uses {
-        Uses {
-            reads: self.reads.saturating_sub(before.reads),
-            writes: self.writes.saturating_sub(before.writes),
-            flushes: self.flushes.saturating_sub(before.flushes),
-            rows: self.rows.saturating_sub(before.rows),
-            sweeps: self.sweeps.saturating_sub(before.sweeps),
-            done: self.done.saturating_sub(before.done),
-        }
-    }
-}
-
-impl fmt::Display for Uses {
-    fn fmt<W: fmt::Write>(&self, f: &mut fmt::Formatter<W>) -> fmt::Result {
-        let Uses {
-            reads,
-            writes,
-            flushes,
-            rows,
-            sweeps,
-            done,
-        } = self;
-        write!(
-            f,
-            "{done} done, {reads} pages read, {writes} pages written, {flushes} flushes, {rows} rows shown, {sweeps} sweeps"
-        )
-    }
-}
-
-// How many commands had no sweep, and how many microseconds they took up to the first write and from there on; the same of those with one, as a whole.
-#[derive(Clone, Copy, Default)]
-pub struct Times {
-    plain: u64,
-    looking: u64,
-    laying: u64,
-    swept: u64,
-    sweeping: u64,
-}
-
-impl fmt::Display for Times {
-    fn fmt<W: fmt::Write>(&self, f: &mut fmt::Formatter<W>) -> fmt::Result {
-        let Times {
-            plain,
-            looking,
-            laying,
-            swept,
-            sweeping,
-        } = self;
-        write!(
-            f,
-            "{plain} with no sweep: {looking} microseconds up to the first write, {laying} from there on; {swept} with a sweep: {sweeping}"
-        )
-    }
-}
+const MOST_ACTS: u64 = 100_000_000;
 
 fn up(count: &mut u64) {
     *count = count.saturating_add(1);
@@ -91,30 +25,36 @@ fn since(rt: &HostRuntime, start: Instant) -> io::Result<u64> {
     Ok(u64::try_from(micros).unwrap_or(u64::MAX))
 }
 
+fn has_ended(told: Told) -> bool {
+    matches!(told, Told::Done | Told::No(_))
+}
+
 #[derive(Drop)]
-pub struct Bench {
+pub struct Bench<'a> {
+    rt: &'a HostRuntime,
     desk: Desk,
-    pages: Vec<Page>,
+    disk: Disk,
     // Where a command is spelled.
     text: Vec<u8>,
     // The first page of the window, as it was written last.
     window: u64,
-    pub uses: Uses,
-    pub times: Times,
+    // What the command took so far.
+    cost: Cost,
 }
 
-impl Bench {
+impl<'a> Bench<'a> {
     // A new house, to which power came.
-    pub fn new(heap: Global, pages: usize) -> Result<Bench, AllocError> {
+    pub fn new(rt: &'a HostRuntime, disk: Disk, pages: u64) -> Result<Bench<'a>, AllocError> {
+        let heap: Global = rt.alloc();
         let mut desk = Desk::new(heap)?;
-        let _ = desk.power::<Control>(pages as u64);
+        let _ = desk.power::<Control>(pages);
         Ok(Bench {
+            rt,
             desk,
-            pages: vec![in heap; [0u8; 512]; pages]?,
+            disk,
             text: vec![in heap; 0u8; SPELLING]?,
             window: 0,
-            uses: Uses::default(),
-            times: Times::default(),
+            cost: Cost::default(),
         })
     }
 
@@ -130,87 +70,75 @@ impl Bench {
     }
 
     // A write; that of a head whose window begins elsewhere is a sweep.
-    fn write(&mut self, k: u64) {
+    fn write(&mut self, k: u64) -> io::Result<()> {
         let page = self.desk.page();
-        if let Some(place) = self.pages.get_mut(k as usize) {
-            *place = page;
-        }
+        up(&mut self.cost.uses.writes);
+        self.disk.write(k, &page)?;
         let window = number(&page);
         if k == 0 && window != self.window {
             self.window = window;
-            up(&mut self.uses.sweeps);
+            up(&mut self.cost.uses.sweeps);
         }
+        Ok(())
+    }
+
+    fn flush(&mut self) -> io::Result<()> {
+        let start = Instant::now(self.rt)?;
+        self.disk.flush()?;
+        let took = since(self.rt, start)?;
+        self.cost.flushing = self.cost.flushing.saturating_add(took);
+        up(&mut self.cost.uses.flushes);
+        Ok(())
     }
 
     // One act, and what is told after it.
-    fn act(&mut self, told: Told) -> Told {
+    fn act(&mut self, told: Told) -> io::Result<Told> {
         match told {
             Told::Read(k) => {
-                up(&mut self.uses.reads);
-                let page = self.pages.get(k as usize).copied().unwrap_or([0; 512]);
-                return self.tell(Event::Page(&page));
+                up(&mut self.cost.uses.reads);
+                let page = self.disk.read(k)?;
+                return Ok(self.tell(Event::Page(&page)));
             }
-            Told::Write(k) => {
-                up(&mut self.uses.writes);
-                self.write(k);
-            }
-            Told::Flush => up(&mut self.uses.flushes),
-            Told::Shows(_) => up(&mut self.uses.rows),
-            _ => return told,
+            Told::Write(k) => self.write(k)?,
+            Told::Flush => self.flush()?,
+            Told::Shows(_) => up(&mut self.cost.uses.rows),
+            _ => return Ok(told),
         }
-        self.tell(Event::Next)
+        Ok(self.tell(Event::Next))
     }
 
     // Acts up to the first write, or to the end.
-    fn look(&mut self, mut told: Told) -> Told {
+    fn look(&mut self, mut told: Told) -> io::Result<Told> {
         for _ in 0..MOST_ACTS {
-            if matches!(told, Told::Write(_) | Told::Done | Told::No(_)) {
+            if has_ended(told) || matches!(told, Told::Write(_)) {
                 break;
             }
-            told = self.act(told);
+            told = self.act(told)?;
         }
-        told
+        Ok(told)
     }
 
     // Acts to the end.
-    fn finish(&mut self, mut told: Told) -> Told {
+    fn finish(&mut self, mut told: Told) -> io::Result<Told> {
         for _ in 0..MOST_ACTS {
-            if matches!(told, Told::Done | Told::No(_)) {
+            if has_ended(told) {
                 break;
             }
-            told = self.act(told);
+            told = self.act(told)?;
         }
-        told
+        Ok(told)
     }
 
-    // A command that took so long up to its first write, and as a whole.
-    fn took(&mut self, looking: u64, all: u64, swept: bool) {
-        let times = &mut self.times;
-        if swept {
-            up(&mut times.swept);
-            times.sweeping = times.sweeping.saturating_add(all);
-        } else {
-            up(&mut times.plain);
-            times.looking = times.looking.saturating_add(looking);
-            let laying = all.saturating_sub(looking);
-            times.laying = times.laying.saturating_add(laying);
-        }
-    }
-
-    // A command from its first act to its last.
-    pub fn run(&mut self, rt: &HostRuntime, command: Command<'_>) -> io::Result<()> {
-        let sweeps = self.uses.sweeps;
-        let start = Instant::now(rt)?;
+    // A command from its first act to its last: what that took.
+    pub fn run(&mut self, command: Command<'_>) -> io::Result<Cost> {
+        self.cost = Cost::default();
+        let start = Instant::now(self.rt)?;
         let told = self.say(command);
-        let told = self.look(told);
-        let looking = since(rt, start)?;
-        let told = self.finish(told);
-        let all = since(rt, start)?;
-        if told == Told::Done {
-            up(&mut self.uses.done);
-        }
-        let swept = self.uses.sweeps != sweeps;
-        self.took(looking, all, swept);
-        Ok(())
+        let told = self.look(told)?;
+        self.cost.looking = since(self.rt, start)?;
+        let told = self.finish(told)?;
+        self.cost.all = since(self.rt, start)?;
+        self.cost.uses.done = u64::from(told == Told::Done);
+        Ok(self.cost)
     }
 }

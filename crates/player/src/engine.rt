@@ -3,9 +3,12 @@ use commands::Kind;
 use pages::told::{Event, Told};
 
 // The kinds of the commands that the house knows. A command that is not known is refused.
-const KNOWN: [Kind; 5] = [
+const KNOWN: [Kind; 8] = [
     Kind::WriteFile,
     Kind::DropFile,
+    Kind::Commit,
+    Kind::History,
+    Kind::ShowFile,
     Kind::Status,
     Kind::ReadFile,
     Kind::Leave,

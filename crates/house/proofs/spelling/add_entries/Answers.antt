@@ -1,6 +1,6 @@
 use Rattle.std.proofs.Common.{◌+◌, ◌-◌, ◌*◌, ap, ◌∙◌, arith}
 use Rattle.store.specs.Running.{added, fresh}
-use Rattle.house.proofs.SpelledLaws.{spelled_none, more_fed}
+use Rattle.house.proofs.FedLaws.{spelled_none, more_fed}
 use Rattle.house.proofs.spelling.add_entries.Goals as goal
 
 pub loop-i-init : goal.loop-i-init

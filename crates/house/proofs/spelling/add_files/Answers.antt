@@ -1,6 +1,6 @@
 use Rattle.std.proofs.Common.{ap, ◌∙◌}
 use Rattle.store.specs.Running.{added, fresh}
-use Rattle.house.proofs.SpelledLaws.{files_fed}
+use Rattle.house.proofs.FedLaws.{files_fed}
 use Rattle.house.proofs.spelling.add_files.Goals as goal
 
 pub returns : goal.returns

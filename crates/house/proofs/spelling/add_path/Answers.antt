@@ -1,7 +1,7 @@
 use Rattle.std.proofs.Common.{◌++◌, ap, ◌∙◌}
 use Rattle.pages.specs.Bytes.{with_length}
 use Rattle.store.specs.Running.{added, fresh}
-use Rattle.house.proofs.SpelledLaws.{path_cut}
+use Rattle.house.proofs.FedLaws.{path_cut}
 use Rattle.house.proofs.spelling.add_path.Goals as goal
 
 pub returns : goal.returns

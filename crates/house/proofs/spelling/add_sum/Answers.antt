@@ -1,7 +1,7 @@
 use Rattle.std.proofs.Common.{◌++◌, refl, ap, ◌∙◌}
 use Rattle.pages.specs.Bytes.{with_length}
 use Rattle.store.specs.Running.{added, fresh}
-use Rattle.house.proofs.SpelledLaws.{sum_bytes}
+use Rattle.house.proofs.FedLaws.{sum_bytes}
 use Rattle.house.proofs.spelling.add_sum.Goals as goal
 
 pub returns : goal.returns

@@ -1,7 +1,7 @@
 use Rattle.std.proofs.Common.{[], ap, ◌∙◌, arith}
 use Rattle.house.specs.Control.{sum_key}
 use Rattle.house.specs.Entry.{own_sum}
-use Rattle.house.proofs.SpelledLaws.{all_spelled, sums_long, words_end}
+use Rattle.house.proofs.FedLaws.{all_spelled, sums_long, words_end}
 use Rattle.house.proofs.control.Control.id.Goals as goal
 
 pub returns : goal.returns

@@ -1,4 +1,4 @@
--- Where a command of the house stands on its tape, and what all commands share: how they begin, what they load, and how they come out. Assumes nothing.
+-- What all commands of the house share on its tape: where they stand, how they begin, what they load, how they come out; and each command that keeps sheets in work. Assumes nothing.
 use Rattle.std.proofs.Common.{◌≡◌, ℕ, zero, suc, ◌+◌, ◌-◌, ◌*◌, ◌/◌, ◌<◌, ◌≤◌, min, Bool, true, false, not, ◌&&◌, eqb, ltb, leb, ◌⊎◌, List, [], ◌∷◌, ◌++◌, length, get_or, take, drop, Some, None, Option, Ok, Err, Result, sym, refl, ap, ◌∙◌, subst, subst₂, ap₂, inl, inr, ⊎_elim, arith, append-nil, length-append}
 use Rattle.std.proofs.lemmas.Bool.{false≢true, eqb-true, eqb-false, eq-eqb, ne_eqb, le-ltb, lt-ltb, ltb-true, ltb-false, le-leb, lt-leb, leb-true, and_parts}
 use Rattle.std.proofs.lemmas.List.{take_all, get_or-take, get_or-drop, drop-drop}
@@ -20,8 +20,8 @@ use Rattle.history.proofs.BackLaws.{back_self}
 use Rattle.house.specs.Control.{kind_sought, more_kept, named_after, settled}
 use Rattle.house.proofs.ShelfLaws.{no_zeros, work_there, work_is, named_files, tree_files_live}
 use Rattle.pages.proofs.ListLaws.{in_has}
-use Rattle.pages.proofs.ListLaws.{pick_true, pick_false, In, in_append, in_left, in_right, in_flat, flat_in, every_in, same_test, same_true, same_from, pick_both, or_cases, or_left, length_each, same_tells, added_up_within, once_distinct, distinct_in, in_distinct}
-use Rattle.objects.specs.Heap.{Live, root, named, Heap, Lives, has_key as key_there, weights, Placed, units_at}
+use Rattle.pages.proofs.ListLaws.{pick_true, pick_false, In, in_append, in_left, in_right, in_flat, flat_in, every_in, same_test, same_true, same_from, pick_both, or_left, length_each, same_tells, added_up_within, once_distinct, distinct_in, in_distinct}
+use Rattle.objects.specs.Heap.{Live, root, Heap, Lives, has_key as key_there, weights, Placed, units_at}
 use Rattle.objects.specs.Plan.{head_at}
 use Rattle.objects.specs.Marking.{key_words, Marked}
 use Rattle.objects.specs.declared.mark.Walk.{Walk}
@@ -55,18 +55,18 @@ use Rattle.history.proofs.BookLaws.{ids_tell, nth_in}
 use Rattle.history.proofs.BackLaws.{back_within}
 use Rattle.commands.specs.Command.{Command, spelled, fits, a_text, write_file, leave, drop_file, read_file, status}
 use Rattle.commands.specs.Parse.{parsed}
-use Rattle.house.specs.House.{Plain, Turn, turn, Clone, clone_at, set_clone, no, yes_with, with_work, drop_path, tree_of, tip, ref_of, weight, tree_weight}
+use Rattle.house.specs.House.{Plain, Turn, turn, Clone, clone_at, set_clone, no, yes_with, with_work, drop_path, tree_of, tip, ref_of, weight}
 use Rattle.house.specs.Facts.{FineTree}
 use Rattle.house.proofs.TurnLaws.{clone_at_same}
 use Rattle.house.specs.Promise.{told_apart, StillApart, Said, Allowed, KnownAllowed}
 use Rattle.house.specs.Simulation.{Setting}
 use Rattle.house.specs.OnTape.{StopStands, EndStands, Answered}
-use Rattle.house.specs.Control.{desk_end, row_of, path_at, bytes_at as bytes_place, head_word, at_phase, sweeping, controlling, control_hears, control_client, noting, said_of, heard_of, hearing, sum_key, named as named_row, surveyed, surveying, kept, lay_file, laying, no_sum, load, loaded, compare, comparing, cursor, emptied, old_row_at, old_row_of, row_words, opened, publish, pages_of, lay_tree, with_row, entry_weight, path_put, path_key, recalled, started, lays, tight}
-use Rattle.house.specs.Shelf.{bytes_at, FileAt, TreeAt, WorkAt, CommitAt, Numbered, Stored, Shelf, Stands, Remembers, keeping, work_root, tip_root, tree_named, files_named}
+use Rattle.house.specs.Control.{desk_end, row_of, path_at, bytes_at as bytes_place, head_word, at_phase, sweeping, controlling, control_hears, control_client, noting, said_of, heard_of, hearing, sum_key, named as named_row, surveyed, surveying, kept, lay_file, laying, no_sum, load, loaded, compare, comparing, cursor, old_row_of, row_words, opened, publish, pages_of, lay_tree, with_row, entry_weight, path_put, path_key, recalled, started, lays, tight}
+use Rattle.house.specs.Shelf.{bytes_at, FileAt, WorkAt, CommitAt, Numbered, Stored, Shelf, Stands, Remembers, keeping, work_root, tip_root, tree_named, files_named}
 use Rattle.house.specs.declared.control.Control.{Control}
 use Rattle.house.specs.declared.control.Phase.{Phase}
 use Rattle.house.specs.declared.control.Phase.TheVariants.{Recalling, LayingFile}
-use Rattle.house.proofs.DeskLaws.{Desk, desk_map, desk_row, row_long, part_front, head_word_is, path_key_is}
+use Rattle.house.proofs.DeskLaws.{Desk, desk_row, row_long, head_word_is, path_key_is}
 use Rattle.house.proofs.NewShelf.{FileLaid, file_laid, shelf_over}
 use Rattle.house.specs.Control.{control, lay_file, published_by, survey, rooted, row_at, survey_roots}
 use Rattle.house.specs.declared.control.Task.{Task}
@@ -75,14 +75,14 @@ use Rattle.house.proofs.DeskLaws.{desk_row_front}
 use Rattle.house.proofs.Sheets.{some_root, row_roots}
 use Rattle.house.proofs.ShelfLaws.{bytes_alike}
 use Rattle.pages.proofs.ListLaws.{has_in}
-use Rattle.house.proofs.SurveyLaws.{unnamed_stands, named_before, roots_live, put_row, found_file, same_bytes, weighs_found, absent, weighs_more}
-use Rattle.house.proofs.ShelfLaws.{head_long, root_live, tip_live, tip_at, tip_there, tips_noted, tips_once, file_live, work_file_at, file_kind, commit_tree_live, commit_file_there, lives_of, shelf_fits, shelf_swept, stored_part, roots_only, commits_files, files_weight, commits_weight, keeping_weighs, numbered_few, numbered_is, numbered_in, live_weighs, Among, CommitThere, FileThere}
+use Rattle.house.proofs.SurveyLaws.{unnamed_stands, roots_live, put_row, found_file, same_bytes, weighs_found, absent, weighs_more}
+use Rattle.house.proofs.ShelfLaws.{head_long, root_live, tip_live, tip_at, tip_there, tips_noted, tips_once, file_live, work_file_at, file_kind, commit_tree_live, commit_file_there, lives_of, shelf_fits, shelf_swept, stored_part, roots_only, commits_files, files_weight, keeping_weighs, numbered_few, numbered_is, numbered_in, live_weighs, Among, CommitThere, FileThere}
 use Rattle.house.specs.declared.control.Task.TheVariants.{Write, Drop, Read, Status, Leave}
 use Rattle.trees.specs.Tree.{rising_paths}
 use Rattle.house.specs.Control.{against, load_old, ask_tip, under_tip, coming_from}
 use Rattle.house.specs.declared.control.Phase.TheVariants.{OpeningTip}
 use Rattle.house.proofs.Versions.{opens_tip}
-use Rattle.house.proofs.Sheets.{loads_old, after, answers_by, text_parts, sum_words, weight_said, file_of, row_room, Well, begins, recalls_head, empty_names, loads_tree, shows_file, compares, names_file, surveys, lays_file, lays_tree, publishes_head}
+use Rattle.house.proofs.Sheets.{loads_old, after, answers_by, text_parts, sum_words, weight_said, file_of, row_room, Well, begins, recalls_head, loads_tree, shows_file, compares, names_file, surveys, lays_file, lays_tree, publishes_head}
 
 -- the ring has room for three reserves, and no reserve is large
 pub reserve_small : (pages : ℕ) → pages ≤ 1048576 → reserve pages ≤ 524288
@@ -706,8 +706,7 @@ module _ (s : Setting) (sums : (bs : List ℕ) → (length (s.sum bs) ≡ 32) ×
           Well s.sum n (Stop (after_with u) []) (End (after_with u) [] 0) (lay_tree k₁ m₁ page) h₁ t₁ page []
       lays_work u k₁ m₁ ws₁ d h₁ t₁ rs page number quiet r desk others tl from heap stored live files row tip tip_there light room bound =
           lays_tree s.sum n (Stop (after_with u) []) (End (after_with u) [] 0) k₁ ws₁ d m₁ h₁ t₁ page [] desk (head_long h₁ others) from (omega (arith, room)) (omega (arith, bound))
-          (λ x xl front.
-          (
+          (λ x xl front. (
             stops_after (after_with u) [] [] [] refl new_head (t₁ ++ x) (shelf x xl front).whole (stands x xl front),
             λ p pg rt m₂ l₂.
                 quietly (Stop (after_with u) []) (End (after_with u) [] 0) (laying p pg rt k₁) m₂ new_head (t₁ ++ x) (page + pages_of (length (squeezed ws₁))) [] quiet
