@@ -1,5 +1,5 @@
 #!/usr/bin/env python3
-"""The program boat on a real file, killed at random moments and started again, beside a plain model of the five commands that the house knows.
+"""The program boat on a real file, killed at random moments and started again, beside a plain model of the commands that the house knows.
 
     (cd crates/boat && rt run -- /tmp/first.pages)
     tests/killed.py --pages 64 --commands 20000 --kills 1000 --seed 1
@@ -7,6 +7,7 @@
 --kills 0 is a day without kills. --many keeps near 4,096 files. docs/KILLED.md says what is compared, and what this cannot try."""
 import argparse
 import collections
+import hashlib
 import os
 import queue
 import random
@@ -16,42 +17,90 @@ import sys
 import tempfile
 import threading
 import time
+import typing
 
 TOP = os.path.dirname(os.path.dirname(os.path.abspath(__file__)))
 MOST_FILES = 4096
 MOST_BYTES = 65535
-VERBS = {"write": 1, "drop": 2, "status": 8, "read": 9, "leave": 12}
+VERBS = {"write": 1, "drop": 2, "commit": 3, "history": 6, "show": 7, "status": 8, "read": 9, "leave": 12}
+BRANCH = b"main"
 
 
-# THE MODEL: the tree in work is a dict of paths and their bytes, and nothing else is kept.
+# THE MODEL: a tree is a dict of paths and their bytes; a house has one in work, and the commits of its branch, the latest last.
 
-def weight(work):
-    return sum(64 + len(b) for b in set(work.values())) + sum(64 + len(p) for p in work)
+class Commit(typing.NamedTuple):
+    id: bytes
+    words: bytes
+    tree: dict
 
 
-def turn(pages, work, command):
-    """What a command is answered, what it shows, and what is in work afterwards."""
+class State(typing.NamedTuple):
+    work: dict
+    log: tuple
+
+    def noted(self):
+        return self.log[-1].tree if self.log else {}
+
+
+EMPTY = State({}, ())
+
+
+def tree_weight(tree):
+    return sum(64 + len(p) for p in tree)
+
+
+def weight(state):
+    files = set(state.work.values()).union(*(c.tree.values() for c in state.log))
+    commits = sum(256 + len(c.words) + tree_weight(c.tree) for c in state.log)
+    return sum(64 + len(b) for b in files) + commits + tree_weight(state.work) + (128 if state.log else 0)
+
+
+def commit_of(state, stamp, words):
+    parents = [c.id for c in state.log[-1:]]
+    files = b"".join(row_of(p) + row_of(hashlib.sha256(b).digest()) for p, b in sorted(state.work.items()))
+    spelled = (struct.pack(">Q", len(parents)) + b"".join(row_of(i) for i in parents) + struct.pack(">Q", len(state.work)) + files
+               + struct.pack(">Q", stamp) + row_of(words))
+    return Commit(hashlib.sha256(spelled).digest(), words, dict(state.work))
+
+
+def marks(old, new):
+    """What status shows of two trees: 1 new, 2 changed, 3 gone."""
+    return [bytes([1 if p not in old else 3 if p not in new else 2]) + p for p in sorted({*old, *new}) if old.get(p) != new.get(p)]
+
+
+def with_room(pages, rows, old, new):
+    if weight(new) > weight(old) and weight(new) > pages * 512 // 4:
+        return 8, [], old
+    return 0, rows, new
+
+
+def turn(pages, state, command):
+    """What a command is answered, what it shows, and how the house stands afterwards."""
     verb, args = command[0], command[1:]
+    work, noted = state.work, state.noted()
     if verb == "write":
-        path, text = args
-        new = dict(work)
-        new[path] = text
-        if len(new) > MOST_FILES:
-            return 10, [], work
-        if weight(new) > weight(work) and weight(new) > pages * 512 // 4:
-            return 8, [], work
-        return 0, [], new
+        new = {**work, args[0]: args[1]}
+        return (10, [], state) if len(new) > MOST_FILES else with_room(pages, [], state, state._replace(work=new))
     if verb == "drop":
         if args[0] not in work:
-            return 3, [], work
-        return 0, [], {p: b for p, b in work.items() if p != args[0]}
+            return 3, [], state
+        return 0, [], state._replace(work={p: b for p, b in work.items() if p != args[0]})
+    if verb == "commit":
+        if work == noted:
+            return 7, [], state
+        one = commit_of(state, *args)
+        return with_room(pages, [one.id], state, state._replace(log=state.log + (one,)))
+    if verb == "history":
+        return 0, [c.id + c.words for c in reversed(state.log)], state
+    if verb == "show":
+        return (0, [noted[args[1]]], state) if args[0] == BRANCH and args[1] in noted else (3, [], state)
     if verb == "read":
-        return (0, [work[args[0]]], work) if args[0] in work else (3, [], work)
+        return (0, [work[args[0]]], state) if args[0] in work else (3, [], state)
     if verb == "status":
-        return 0, [b"\x01" + p for p in sorted(work)], work
+        return 0, marks(noted, work), state
     if verb == "leave":
-        return 0, [], {}
-    return (2 if verb == "unknown" else 1), [], work
+        return with_room(pages, [], state, state._replace(work=noted))
+    return (2 if verb == "unknown" else 1), [], state
 
 
 # WHAT IS TYPED
@@ -82,14 +131,18 @@ def line_of(command, raw):
     if verb not in VERBS:
         return args[0]
     if raw:
-        return b"raw " + (bytes([VERBS[verb]]) + b"".join(row_of(a) for a in args)).hex().encode()
+        return b"raw " + (bytes([VERBS[verb]]) + b"".join(struct.pack(">Q", a) if isinstance(a, int) else row_of(a) for a in args)).hex().encode()
+    if verb == "commit":
+        return b"commit %d " % args[0] + escaped(IN_TEXT, args[1])
+    if verb == "show":
+        return b" ".join([b"show", escaped(IN_WORD, args[0]), escaped(IN_TEXT, args[1])])
     words = [verb.encode()] + [escaped(IN_WORD, a) for a in args[:1]] + [escaped(IN_TEXT, a) for a in args[1:]]
     return b" ".join(words)
 
 
 # WHAT IS DRAWN
 
-UNKNOWN = [b"commit 5 words", b"branch side", b"go to side", b"history", b"show side a", b"join side", b"settle a", b"move onto side", b"carry 0f",
+UNKNOWN = [b"branch side", b"go to side", b"join side", b"settle a", b"move onto side", b"carry 0f",
            b"forget side", b"tag side", b"who a", b"sweep", b"fetch 1"]
 NO_COMMAND = [b"raw", b"raw 00", b"raw 14", b"raw 0800", b"raw 0c00", b"raw 020000000000000000", b"raw 09000000000000000261",
               b"raw 0100000000000000016100000000000000026162" + b"63", b"raw ff"]
@@ -112,7 +165,7 @@ class Draws:
                 paths.append(p)
         return paths
 
-    def size(self, work, path):
+    def size(self, state, path):
         """From nothing to 65,535 bytes; often just what still finds room, or one byte more."""
         r, x = self.random, self.random.random()
         quarter = self.pages * 128
@@ -123,34 +176,44 @@ class Draws:
         if x < 0.8:
             return r.randint(0, quarter)
         if x < 0.95:
-            rest = {p: b for p, b in work.items() if p != path}
-            return quarter - weight(rest) - 128 - len(path) + r.choice((-1, 0, 0, 1, 1, 2))
+            rest = {p: b for p, b in state.work.items() if p != path}
+            return quarter - weight(state._replace(work=rest)) - 128 - len(path) + r.choice((-1, 0, 0, 1, 1, 2))
         return r.choice((MOST_BYTES, MOST_BYTES - 1, r.randint(0, MOST_BYTES)))
 
-    def text(self, work, path):
-        r = self.random
+    def text(self, state, path):
+        r, work = self.random, state.work
         if r.random() < 0.25:
             return r.choice(self.kept if r.random() < 0.5 or not work else list(work.values()))
-        n = min(max(self.size(work, path), 0), MOST_BYTES)
+        n = min(max(self.size(state, path), 0), MOST_BYTES)
         one = r.randbytes(n) if r.random() < 0.5 else (b"%d fathoms at the lock, " % r.randrange(10 ** 6) * (n // 16 + 1))[:n]
         self.kept.append(one)
         return one
 
-    def command(self, work):
-        r, x = self.random, self.random.random()
+    def words(self):
+        r = self.random
+        return r.randbytes(r.choice((0, 1, 8, 30, 30, 60))) if r.random() < 0.97 else r.randbytes(r.randint(0, MOST_BYTES))
+
+    def command(self, state):
+        r, x, work = self.random, self.random.random(), state.work
         path = r.choice(self.paths)
         if work and r.random() < 0.5:
             path = r.choice(list(work))
         elif self.many and x < 0.5:
             path = r.choice([p for p in self.paths if p not in work])
         if x < 0.5:
-            return "write", path, self.text(work, path)
-        if x < 0.68:
+            return "write", path, self.text(state, path)
+        if x < 0.66:
             return "drop", path
-        if x < 0.86:
+        if x < 0.8:
             return "read", path
-        if x < 0.94:
+        if x < 0.84:
+            return "show", BRANCH if r.random() < 0.9 else b"side", path
+        if x < 0.88:
             return ("status",)
+        if x < 0.91:
+            return ("history",)
+        if x < 0.94:
+            return "commit", r.choice((0, 1, r.randrange(2 ** 64), 2 ** 64 - 1)), self.words()
         if x < 0.96:
             return ("status",) if self.many else ("leave",)
         return ("unknown", r.choice(UNKNOWN)) if x < 0.985 else ("none", r.choice(NO_COMMAND))
@@ -245,7 +308,7 @@ class Day:
         self.random = self.draws.random
         self.file = os.path.join(folder, "killed.pages")
         self.errors = open(os.path.join(folder, "errors"), "w+b")
-        self.work = {}
+        self.state = EMPTY
         self.counts = collections.Counter()
         self.took = {}
         self.boat = self.start()
@@ -305,7 +368,7 @@ class Day:
 
     def ask(self, command):
         """One command to its end."""
-        plain = turn(self.args.pages, self.work, command)
+        plain = turn(self.args.pages, self.state, command)
         text = self.line(command)
         begun = time.perf_counter()
         self.boat.say(text)
@@ -315,7 +378,7 @@ class Day:
         if reply is None:
             raise Broken(f"it ended by itself, status {self.boat.ended()}")
         self.answered(command, reply)
-        self.work = plain[2]
+        self.state = plain[2]
         self.saw_window()
 
     def asked(self, text):
@@ -325,33 +388,39 @@ class Day:
             raise Broken(f"it ended by itself while it was asked {text[:80]!r}, status {self.boat.ended()}")
         return reply, [row for row, _ in shown]
 
-    def all_there(self):
-        """All that can be asked: status, and each path that there is in it or was ever drawn."""
+    def files(self, verb, *front):
+        """Each sheet that can be asked for so, of all paths that were ever drawn or may be there."""
         there = {}
-        reply, rows = self.asked(b"status\n")
-        paths = [bytes.fromhex(r.decode())[1:] for r in rows]
-        if reply or paths != sorted(set(paths)) or any(not r.startswith(b"01") for r in rows):
-            self.mismatch(f"status was answered {reply} {rows!r}")
-        for p in sorted(set(paths) | set(self.draws.paths)):
-            reply, rows = self.asked(line_of(("read", p), False) + b"\n")
+        for p in sorted({*self.state.work, *self.state.noted(), *self.draws.paths}):
+            reply, rows = self.asked(line_of((verb, *front, p), False) + b"\n")
             self.counts["reads"] += 1
             if reply == 0 and len(rows) == 1:
                 there[p] = bytes.fromhex(rows[0].decode())
             elif reply != 3 or rows:
-                self.mismatch(f"read {p!r} was answered {reply} {rows!r}")
-        if sorted(there) != paths:
-            self.mismatch(f"status names {paths!r}, and there to be read are {sorted(there)!r}")
-        self.counts["compared"] += 1
+                self.mismatch(f"{verb} {p!r} was answered {reply} {rows!r}")
         return there
+
+    def all_there(self):
+        """All that can be asked: what is in work, what was noted last, the log, and what differs."""
+        work, noted = self.files("read"), self.files("show", BRANCH)
+        reply, rows = self.asked(b"status\n")
+        if reply or [bytes.fromhex(r.decode()) for r in rows] != marks(noted, work):
+            self.mismatch(f"status was answered {reply} {rows!r}")
+        reply, rows = self.asked(b"history\n")
+        if reply:
+            self.mismatch(f"history was answered {reply}")
+        self.counts["compared"] += 1
+        return work, noted, [bytes.fromhex(r.decode()) for r in rows]
 
     def check(self, *may_be):
         """What is there has to be one of these; says which."""
         there = self.all_there()
-        self.work = there
-        if there not in may_be:
-            self.mismatch(f"there are {[(p, len(b)) for p, b in there.items()]!r}, and may be {[[(p, len(b)) for p, b in t.items()] for t in may_be]!r}")
-            return None
-        return may_be.index(there)
+        for place, state in enumerate(may_be):
+            if there == (state.work, state.noted(), [c.id + c.words for c in reversed(state.log)]):
+                self.state = state
+                return place
+        self.mismatch(f"there are {there!r}, and may be {may_be!r}")
+        raise Broken("what is there is none of what may be")
 
     def wait_for(self, commands):
         """As long as such commands took, or less."""
@@ -361,7 +430,7 @@ class Day:
     def kill_idle(self):
         self.boat.kill()
         self.counts["kills with nothing to do"] += 1
-        return [self.work]
+        return [self.state]
 
     def kill_running(self):
         """Commands are said, one or several behind each other, and it is killed while they run. What may be there: what all that was answered leaves, or one more."""
@@ -369,12 +438,12 @@ class Day:
             for _ in range(500):
                 if self.is_tight():
                     break
-                self.ask(self.draws.command(self.work))
+                self.ask(self.draws.command(self.state))
         tight = self.is_tight()
-        states, commands, plains = [self.work], [], []
+        states, commands, plains = [self.state], [], []
         for _ in range(1 if tight else self.random.choice((1, 1, 2, 5, 12))):
             command = self.draws.command(states[-1])
-            while tight and (command[0] not in ("write", "drop") or turn(self.args.pages, self.work, command)[0]):
+            while tight and (command[0] not in ("write", "drop", "commit") or turn(self.args.pages, self.state, command)[0]):
                 command = self.draws.command(states[-1])
             commands.append(command)
             plains.append(turn(self.args.pages, states[-1], command))
@@ -433,18 +502,18 @@ class Day:
         told = time.monotonic()
         while self.counts["commands"] - begun < self.args.commands or self.counts["kills"] < self.args.kills:
             for _ in range(self.random.randint(0, int(2 * between)) if self.args.kills else 50):
-                self.ask(self.draws.command(self.work))
+                self.ask(self.draws.command(self.state))
             if self.counts["kills"] < self.args.kills:
                 self.kill()
             else:
-                self.check(self.work)
+                self.check(self.state)
                 if self.random.random() < 0.1:
                     self.end()
                     self.boat = self.start()
             if time.monotonic() - told > 20:
                 told = time.monotonic()
                 print(f".. {self.counts['commands']} commands, {self.counts['kills']} kills", file=sys.stderr, flush=True)
-        self.check(self.work)
+        self.check(self.state)
         self.end()
 
     def end(self):
@@ -461,7 +530,7 @@ class Day:
         for name in ("kills", "kills with nothing to do", "kills as it starts", "kills in a command", "  after its answer", "  in one that changes nothing",
                      "  left as before it", "  left as after it", "  in one that sweeps first", "    the sweep's head was there", "    the sweep's head was not there"):
             print(f"{name}: {c[name]}")
-        print("refused: " + ", ".join(f"{c[f'refused {n}']} with {n}" for n in (1, 2, 3, 8, 10)))
+        print("refused: " + ", ".join(f"{c[f'refused {n}']} with {n}" for n in (1, 2, 3, 7, 8, 10)))
         print(f"longest sheet written: {c['longest']}; sweeps: {c['sweeps']}")
         print(f"starts: {c['starts']}; all was asked: {c['compared']} times, with {c['reads']} reads")
         print(f"mismatches: {c['mismatches']}")
