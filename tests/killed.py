@@ -135,7 +135,7 @@ def line_of(command, raw):
     if verb == "commit":
         return b"commit %d " % args[0] + escaped(IN_TEXT, args[1])
     if verb == "show":
-        return b" ".join([b"show", escaped(IN_WORD, args[0]), escaped(IN_TEXT, args[1])])
+        return b" ".join([b"show"] + [escaped(IN_WORD, a) for a in args])
     words = [verb.encode()] + [escaped(IN_WORD, a) for a in args[:1]] + [escaped(IN_TEXT, a) for a in args[1:]]
     return b" ".join(words)
 
