@@ -1,9 +1,9 @@
 -- A row's entries as arrays of ten words, and as files.
-use Rattle.std.proofs.Common.{◌≡◌, ℕ, zero, suc, ◌+◌, ◌*◌, ◌<◌, ◌≤◌, Bool, true, false, not, cond, ltb, List, [], ◌∷◌, length, get_or, take, drop, Some, None, Option, Decides, sym, refl, ap, ◌∙◌, ap₂, arith, length-drop}
+use Rattle.std.proofs.Common.{◌≡◌, ◌==◌, ◌&&◌, ℕ, zero, suc, ◌+◌, ◌*◌, ◌<◌, ◌≤◌, Bool, true, false, not, cond, ltb, List, [], ◌∷◌, length, get_or, take, drop, Some, None, Option, Decides, sym, refl, ap, ◌∙◌, ap₂, arith, length-drop}
 use Rattle.std.proofs.lemmas.List.{take_more, take-take, get_or-take, get_or-drop, drop-drop}
 use Rattle.std.proofs.lemmas.Bool.Decides.{nat_tests, same_from_decides}
 use Rattle.std.specs.Option.{unwrap_or}
-use Rattle.std.specs.List.{position, position_or_len}
+use Rattle.std.specs.List.{list_all, position, position_or_len, zip}
 use Rattle.pages.specs.Lists.{pick, or, each, same}
 use Rattle.trees.specs.Tree.{found, same_tree}
 use Rattle.trees.specs.Order.{halts, spot, there}
@@ -136,3 +136,10 @@ same_entries xs ys es fs b e f d =
       λ s. e ∙ sym (words_tens (held xs) (drop 2 xs) (held_within xs)) ∙ ap (each in_words) (t.0 s) ∙ words_tens (held ys) (drop 2 ys) (held_within ys) ∙ sym f,
       λ s. t.1 (sym (entries_are xs es e) ∙ ap (each as_entry) s ∙ entries_are ys fs f),
     )
+
+-- word by word, as far as the first row goes
+pub zipped_same : (xs ys : List ℕ) → length xs ≤ length ys → list_all (λ p. p.0 == p.1) (zip xs ys) ≡ same xs (take (length xs) ys)
+unfolding same
+zipped_same [] ys h = refl
+zipped_same (x ∷ xs) [] h = absurd (omega arith)
+zipped_same (x ∷ xs) (y ∷ ys) h = ap (λ b. x == y && b) (zipped_same xs ys (omega arith))

@@ -35,7 +35,7 @@ pub(crate) fn order(a: &Entry, b: &Entry) -> Ordering
 pub(crate) fn is_at(entry: &Entry, key: &Key) -> bool
     ensures { result ≡ same key.now (take 9 entry.now) }
 {
-    key.as_slice() == &entry[..9]
+    key.iter().zip(entry).all(|(a, b)| a == b)
 }
 
 // Whether a key comes before an entry, or is the entry's own.
