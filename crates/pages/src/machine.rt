@@ -7,6 +7,7 @@ ghost use Rattle.pages.specs.Words.{over, page_words};
 
 use crate::told::{Event, Told};
 use crate::words::{page_words, put_bytes, put_head, put_words};
+use std::mem::{self, ManuallyDrop};
 
 // The words of the buffer, at the front of a client's memory.
 pub const BUFFER: usize = 41_088;
@@ -328,4 +329,29 @@ impl<C: Client> Server<C> {
             Event::Lost => self.machine.give_up(),
         }
     }
+}
+
+// One step of a machine and a client that are lent. The client is moved into a `Server` for the step, and the client of cells that are all 0 stands in its
+// place. `load` is given nothing but cells, so that one owns nothing that would have to be given back: it is leaked, since a client need not be `Drop`.
+pub fn serve<C: Client>(
+    machine: &mut Machine,
+    client: &mut C,
+    memory: &mut [u64],
+    event: Event,
+    out: &mut [u8],
+) -> Told
+    ensures { ServeSays (serve_fits memory.old out.old) C.housed.program machine.old client.old memory.old (event_meant event.entry) out.old result machine.new client.new memory.new out.new }
+{
+    let mut server = Server {
+        machine: *machine,
+        client: mem::replace(client, C::load(&[0; 120])),
+    };
+    let told = server.serve(memory, event, out);
+    let Server {
+        machine: after,
+        client: back,
+    } = server;
+    *machine = after;
+    let _stand_in = unsafe { ManuallyDrop::new_unchecked(mem::replace(client, back)) };
+    told
 }

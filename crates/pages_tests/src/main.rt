@@ -67,7 +67,8 @@ impl Ring {
             }
             Told::Write(k) => device.write(k as usize, self.desk.page())?,
             Told::Flush => device.flush(),
-            _ => {}
+            Told::Shows(_) => {}
+            _ => return Ok(told),
         }
         Ok(self.desk.tell::<Counter>(Event::Next))
     }
