@@ -4,7 +4,7 @@ ghost use Rattle.plain.specs.Files.{book_of, held_or_empty, one};
 ghost use Rattle.plain.specs.Grown.{Grown};
 ghost use Rattle.plain.specs.Sides.{rows};
 ghost use Rattle.trees.specs.Tree.{found};
-ghost use Rattle.std.specs.Prelude.{◌≡◌, ◌<◌, IfOk, vec_len};
+ghost use Rattle.std.specs.Prelude.{◌≡◌, ◌<◌, ◌≤◌, length, slice_index_or, false, All, IfOk, IsTrue, IsFalse, vec_len};
 
 use crate::tree::Tree;
 use pages::bytes::in_eight;
@@ -41,6 +41,24 @@ fn put_tree(out: &mut Vec<u8>, tree: &Tree) -> Result<(), AllocError> {
         put_row(out, &sum(bytes.as_slice()))?;
     }
     Ok(())
+}
+
+fn is_marked(marks: &[bool], k: usize) -> bool
+    ensures { result ≡ slice_index_or marks.now k false }
+{
+    marks.get(k).copied().unwrap_or(false)
+}
+
+// Marks these numbers; those past the end are passed over.
+fn mark(marks: &mut [bool], numbers: &[usize])
+    ensures len { length marks.new ≡ length marks.old }
+    ensures past { All (λ k. length marks.old ≤ k) numbers.now → marks.new ≡ marks.old }
+{
+    for k in numbers {
+        if *k < marks.len() {
+            marks[*k] = true;
+        }
+    }
 }
 
 impl Book {
@@ -139,50 +157,69 @@ impl Book {
         Ok(k)
     }
 
-    // These commits and all that come before them.
-    pub fn back(&self, starts: &[usize]) -> Result<BTreeSet<usize>, AllocError> {
-        let mut reached = BTreeSet::new(self.heap);
-        reached.extend(starts)?;
+    // These commits and all that come before them, as marks; a number that is no commit's is passed over.
+    fn marks(&self, starts: &[usize]) -> Result<Vec<bool>, AllocError>
+        ensures len { IfOk result (λ marks. vec_len marks ≡ vec_len self.now.commits) }
+        ensures past { IfOk result (λ marks. All (λ k. vec_len self.now.commits ≤ k) starts.now → All IsFalse marks.items) }
+    {
+        let mut marks = vec![in self.heap; false; self.commits.len()]?;
+        mark(marks.as_mut_slice(), starts);
         for (k, commit) in self.commits.iter().enumerate().rev() {
-            if reached.contains(&k) {
-                reached.extend(commit.parents.iter())?;
+            if is_marked(marks.as_slice(), k) {
+                mark(marks.as_mut_slice(), commit.parents.as_slice());
             }
         }
-        Ok(reached)
+        Ok(marks)
+    }
+
+    // These commits and all that come before them.
+    pub fn back(&self, starts: &[usize]) -> Result<BTreeSet<usize>, AllocError>
+        ensures { IfOk result (λ reached. All (λ k. k < vec_len self.now.commits) reached.keys) }
+    {
+        let marks = self.marks(starts)?;
+        (0..self.commits.len())
+            .filter(|k| is_marked(marks.as_slice(), *k))
+            .collect(self.heap)
     }
 
     // Whether commit k is j or comes from it.
-    pub fn under(&self, j: usize, k: usize) -> Result<bool, AllocError> {
-        Ok(self.back(&[k])?.contains(&j))
+    pub fn under(&self, j: usize, k: usize) -> Result<bool, AllocError>
+        ensures { IfOk result (λ yes. IsTrue yes → (j < vec_len self.now.commits) × (k < vec_len self.now.commits)) }
+    {
+        Ok(is_marked(self.marks(&[k])?.as_slice(), j))
     }
 
     // The latest that both come from: no other that both come from comes from them.
     pub fn latest_common(&self, j: usize, k: usize) -> Result<Vec<usize>, AllocError> {
-        let theirs = self.back(&[j])?;
-        let ours = self.back(&[k])?;
+        let theirs = self.marks(&[j])?;
+        let ours = self.marks(&[k])?;
         let mut latest = Vec::new(self.heap);
-        let mut covered = BTreeSet::new(self.heap);
-        for i in theirs.iter().rev() {
-            if ours.contains(i) && !covered.contains(i) {
-                latest.push(*i)?;
-                covered.append(&mut self.back(&[*i])?)?;
+        let mut covered = self.marks(&[])?;
+        for i in (0..self.commits.len()).rev() {
+            if is_marked(theirs.as_slice(), i)
+                && is_marked(ours.as_slice(), i)
+                && !is_marked(covered.as_slice(), i)
+            {
+                latest.push(i)?;
+                covered = self.marks(latest.as_slice())?;
             }
         }
         Ok(latest)
     }
 
     // Of the commits that are left, one from which no other comes: the one with the largest stamp, of several the one with the least id.
-    fn next_of(&self, left: &BTreeSet<usize>) -> Option<usize> {
-        left.iter()
-            .copied()
-            .filter(|j| self.is_free(left, *j))
+    fn next_of(&self, left: &[bool]) -> Option<usize> {
+        (0..self.commits.len())
+            .filter(|j| is_marked(left, *j) && self.is_free(left, *j))
             .min_by_key(|j| (Reverse(self.stamp(*j)), self.id(*j)))
     }
 
     // Whether no commit that is left has this one as a parent. What is left is whole: with a commit, all that comes before it.
-    fn is_free(&self, left: &BTreeSet<usize>, j: usize) -> bool {
-        !self.commits.iter().enumerate().any(|(k, commit)| left.contains(&k)
-            && commit.parents.contains(&j))
+    fn is_free(&self, left: &[bool], j: usize) -> bool {
+        !left
+            .iter()
+            .zip(self.commits.iter())
+            .any(|(there, commit)| *there && commit.parents.contains(&j))
     }
 
     // A commit and all before it, in the order of a log.
@@ -191,11 +228,14 @@ impl Book {
         let Some(tip) = start else {
             return Ok(order);
         };
-        let mut left = self.back(&[tip])?;
-        for _ in 0..left.len() {
-            if let Some(k) = self.next_of(&left) {
-                order.push(k)?;
-                left.remove(&k);
+        let mut left = self.marks(&[tip])?;
+        for _ in 0..self.commits.len() {
+            let Some(k) = self.next_of(left.as_slice()) else {
+                break;
+            };
+            order.push(k)?;
+            if let Some(there) = left.get_mut(k) {
+                *there = false;
             }
         }
         Ok(order)
