@@ -1,8 +1,6 @@
 -- Rows of pages, as the code sets and reads them, are those of the device. Assumes nothing.
-use Rattle.std.proofs.Common.{◌≡◌, ℕ, zero, suc, ◌/◌, ◌%◌, ◌<◌, ◌≤◌, false, eqb, Option, Some, None, List, [], ◌∷◌, ◌++◌, length, get_or, set, replicate, sym, refl, ap, ◌∙◌, arith}
+use Rattle.std.proofs.Common.{◌≡◌, ℕ, zero, suc, ◌/◌, ◌%◌, ◌<◌, ◌≤◌, false, eqb, List, [], ◌∷◌, ◌++◌, length, get_or, set, replicate, sym, refl, ap, ◌∙◌, arith}
 use Rattle.std.specs.List.{AllZip}
-use Rattle.std.specs.Borrow.{Bor}
-use Rattle.std.specs.Option.{MatchOption, option_copied}
 use Rattle.std.proofs.lemmas.Slice.Zip.{AllZip-map}
 use Rattle.std.proofs.lemmas.Bool.{eqb-true, eqb-false, eq-eqb, ne_eqb}
 use Rattle.std.proofs.lemmas.List.{map-id, length-set, get_or-set_same, get_or-set_other}
@@ -45,8 +43,21 @@ seen_is (w ∷ ws) ps k h =
     (λ e. sym (page_at_set_other ps w.at k w.page (eqb-false w.at k e))))
     ∙ seen_is ws (set_page ps w.at w.page) k (omega (arith, length_set_page ps w.at w.page))
 
+pub blank_is : (n : ℕ) → replicate n (zeros 512) ≡ blank n
+unfolding blank
+blank_is zero = refl
+blank_is (suc n) = ap (λ ps. zeros 512 ∷ ps) (blank_is n)
+
+pub left_none : (ps : List Page) (ws : List Write) → left ps ws [] ≡ ps
+unfolding left
+left_none ps [] = refl
+left_none ps (w ∷ ws) = refl
+
+pub same_zeros : (ys : List ℕ) → AllZip (λ x y. y ≡ x) (zeros 512) ys → ys ≡ zeros 512
+same_zeros ys h = AllZip-map (λ x. x) (zeros 512) ys h ∙ map-id (zeros 512)
+
 -- PLACES
-pub through_is : (p : Page) (ws : List Waiting) (i k : ℕ) (d : Waiting) → i < length ws → through p ws i k ≡ pick (eqb (get_or ws i d).at k) (get_or ws i d).page p
+through_is : (p : Page) (ws : List Waiting) (i k : ℕ) (d : Waiting) → i < length ws → through p ws i k ≡ pick (eqb (get_or ws i d).at k) (get_or ws i d).page p
 through_is p [] i k d h = absurd (omega arith)
 through_is p (w ∷ ws) zero k d h = refl
 through_is p (w ∷ ws) (suc i) k d h = through_is p ws i k d (omega arith)
@@ -79,10 +90,6 @@ pub through_other : (p : Page) (ws : List Waiting) (i k : ℕ) (w : Waiting) →
 through_other p ws i k w h is ne =
     through_is p ws i k w h ∙ pick_false (eqb (get_or ws i w).at k) (get_or ws i w).page p (ne_eqb (get_or ws i w).at k (λ e. ne (ap (λ v. v.at) is ∙ e)))
 
-pub copied_as : {X : Type 0} (o : Option (Bor X)) (A : Type 0) (P : X → Type 0) → MatchOption o A (λ x. P x.now) → MatchOption (option_copied o) A P
-copied_as None A P h = h
-copied_as (Some x) A P h = h
-
 through_new : (p : Page) (ws : List Waiting) (w : Waiting) (k : ℕ) → through p (ws ++ w ∷ []) (length ws) k ≡ pick (eqb w.at k) w.page p
 through_new p [] w k = refl
 through_new p (v ∷ ws) w k = through_new p ws w k
@@ -111,19 +118,6 @@ leads_push ws w places h k lt p =
     ap (λ i. through p more i k) (get_or-set_other places w.at k (length ws) 0 (λ s. eqb-false w.at k e (sym s)))
     ∙ through_old p ws w (get_or places k 0) k e ∙ h k there p)
     ∙ sym (last_push p ws w k)
-
-pub blank_is : (n : ℕ) → replicate n (zeros 512) ≡ blank n
-unfolding blank
-blank_is zero = refl
-blank_is (suc n) = ap (λ ps. zeros 512 ∷ ps) (blank_is n)
-
-pub left_none : (ps : List Page) (ws : List Write) → left ps ws [] ≡ ps
-unfolding left
-left_none ps [] = refl
-left_none ps (w ∷ ws) = refl
-
-pub same_zeros : (ys : List ℕ) → AllZip (λ x y. y ≡ x) (zeros 512) ys → ys ≡ zeros 512
-same_zeros ys h = AllZip-map (λ x. x) (zeros 512) ys h ∙ map-id (zeros 512)
 
 -- OUTCOMES
 pub each_push : (xs : List Left) (x : Left) (ys : List ℕ) → each code (xs ++ x ∷ []) ++ ys ≡ each code xs ++ code x ∷ ys

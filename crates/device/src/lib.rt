@@ -4,7 +4,7 @@
 ghost use Rattle.std.specs.Prelude.{◌≡◌, ◌%◌, ◌<◌, ◌≤◌, List, [], ◌++◌, ◌∷◌, length, IfOk, OnOk, OnErr, MatchOption};
 ghost use Rattle.pages.specs.Device.{Device as Held, all_written, blank, flushed, left as left_of, read_page, set_page, stopped};
 ghost use Rattle.pages.specs.Lists.{each};
-ghost use Rattle.device.specs.Held.{brought, last_of, meant};
+ghost use Rattle.device.specs.Held.{brought, meant};
 ghost use Rattle.device.specs.Left.{code, digits};
 
 pub mod desk;
@@ -67,8 +67,8 @@ struct Write {
     page: Page,
 }
 
-// Pages, and the writes that wait, the oldest first. So that a read doesn't go over the queue, each page has the place in it of the last write to the page.
-// Where no write or one to another page has that place, none to this one waits: so a flush and a stop leave the places as they are.
+// Pages, and the writes that wait, the oldest first. So that a read doesn't go over the queue, `last` has for each page the place in it of the last write to
+// the page. Where no write has that place, or one to another page, none to this page waits: so a flush and a stop leave `last` as it is.
 #[derive(Drop)]
 pub struct Device {
     pages: Vec<Page>,

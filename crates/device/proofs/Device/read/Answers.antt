@@ -1,8 +1,12 @@
-use Rattle.std.proofs.Common.{◌≡◌, ◌≤◌, length, sym, subst}
-use Rattle.std.specs.Option.{MatchOption}
+use Rattle.std.proofs.Common.{◌≡◌, ◌≤◌, Option, Some, None, length, sym, subst}
+use Rattle.std.specs.Borrow.{Bor}
+use Rattle.std.specs.Option.{MatchOption, option_copied}
 use Rattle.pages.specs.Device.{Page, read_page}
-use Rattle.device.proofs.Holding.{copied_as}
 use Rattle.device.proofs.Device.read.Goals as goal
+
+copied_as : {X : Type 0} (o : Option (Bor X)) (A : Type 0) (P : X → Type 0) → MatchOption o A (λ x. P x.now) → MatchOption (option_copied o) A P
+copied_as None A P h = h
+copied_as (Some x) A P h = h
 
 pub returns : goal.returns
 returns c =
