@@ -4,7 +4,7 @@
 ghost use Rattle.std.specs.Prelude.{◌≡◌, ◌%◌, ◌<◌, ◌≤◌, List, [], ◌++◌, ◌∷◌, length, IfOk, OnOk, OnErr, MatchOption};
 ghost use Rattle.pages.specs.Device.{Device as Held, all_written, blank, flushed, left as left_of, read_page, set_page, stopped};
 ghost use Rattle.pages.specs.Lists.{each};
-ghost use Rattle.device.specs.Held.{brought, last_of, meant};
+ghost use Rattle.device.specs.Held.{brought, meant};
 ghost use Rattle.device.specs.Left.{code, digits};
 
 pub mod desk;
@@ -67,11 +67,13 @@ struct Write {
     page: Page,
 }
 
-// Pages, and the writes that wait, the oldest first.
+// Pages, and the writes that wait, the oldest first. So that a read doesn't go over the queue, `last` has for each page the place in it of the last write to
+// the page. Where no write has that place, or one to another page, none to this page waits: so a flush and a stop leave `last` as it is.
 #[derive(Drop)]
 pub struct Device {
     pages: Vec<Page>,
     queue: Vec<Write>,
+    last: Vec<usize>,
 }
 
 impl Model for Device {
@@ -79,13 +81,16 @@ impl Model for Device {
 
     ghost Value = { Held };
 
-    ghost use Rattle.device.specs.Held.{held};
+    ghost use Rattle.std.specs.Prelude.{◌≡◌, length};
+    ghost use Rattle.device.specs.Held.{held, LeadsToLast};
 
     ghost view = { λ d. held d.pages.items d.queue.items };
+
+    ghost invariant = { λ d. (length d.last.items ≡ length d.pages.items) × LeadsToLast d.queue.items d.last.items };
 }
 
 // Puts a page into its place, if there is one.
-// As it stands: by its index, here and in `bring`, since of a row after `get_mut` the library says nothing.
+// As it stands: by its index, here, in `bring` and in `write`, since of a row after `get_mut` the library says nothing.
 fn set(pages: &mut [Page], at: usize, page: Page)
     ensures { pages.new ≡ set_page pages.old at page }
 {
@@ -125,19 +130,6 @@ fn bring_some(pages: &mut [Page], queue: &[Write], left: &[Left])
     }
 }
 
-// A page that is there, as the last write to it has it.
-fn seen(page: Page, queue: &[Write], at: usize) -> Page
-    ensures { result ≡ last_of page (each meant queue.now) at }
-{
-    let mut page = page;
-    for write in queue {
-        if write.at == at {
-            page = write.page;
-        }
-    }
-    page
-}
-
 impl Device {
     // So many pages of zeros, with nothing waiting.
     pub fn blank(heap: Global, pages: usize) -> Result<Device, AllocError>
@@ -146,6 +138,7 @@ impl Device {
         Ok(Device {
             pages: vec![in heap; [0u8; 512]; pages]?,
             queue: Vec::new(heap),
+            last: vec![in heap; 0usize; pages]?,
         })
     }
 
@@ -158,6 +151,7 @@ impl Device {
         Ok(Device {
             pages: Vec::from_slice(heap, &self.pages)?,
             queue: Vec::from_slice(heap, &self.queue)?,
+            last: Vec::from_slice(heap, &self.last)?,
         })
     }
 
@@ -176,14 +170,21 @@ impl Device {
     }
 
     // A page as whoever reads sees it, with what waits; none where there is no such page.
+    pub fn page(&self, at: usize) -> Option<&Page>
+        ensures { MatchOption result (length self.now.pages ≤ at) (λ page. page.now ≡ read_page self.now at) }
+    {
+        let place = *self.last.get(at)?;
+        match self.queue.get(place) {
+            Some(write) if write.at == at => Some(&write.page),
+            _ => self.pages.get(at),
+        }
+    }
+
+    // The same, as a copy.
     pub fn read(&self, at: usize) -> Option<Page>
         ensures { MatchOption result (length self.now.pages ≤ at) (λ page. page ≡ read_page self.now at) }
     {
-        if at < self.pages.len() {
-            Some(seen(self.pages[at], &self.queue, at))
-        } else {
-            None
-        }
+        self.page(at).copied()
     }
 
     // A write that waits from now on; where there is no memory for it, nothing changes.
@@ -191,7 +192,11 @@ impl Device {
         ensures ok { OnOk result (self.new ≡ record { pages = self.old.pages; queue = self.old.queue ++ record { at = at; page = page } ∷ [] }) }
         ensures err { OnErr result (self.new ≡ self.old) }
     {
+        let place = self.queue.len();
         self.queue.push(Write { at, page })?;
+        if at < self.last.len() {
+            self.last[at] = place;
+        }
         Ok(())
     }
 

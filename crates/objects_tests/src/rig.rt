@@ -50,9 +50,11 @@ pub struct Rig {
     pub shown: [u64; 2],
 }
 
-// A page; zeros where there is none.
-fn page_at(device: &Device, at: u64) -> Page {
-    device.read(at as usize).unwrap_or([0; 512])
+// What is read where there is no page.
+static BLANK: Page = [0; 512];
+
+fn page_at(device: &Device, at: u64) -> &Page {
+    device.page(at as usize).unwrap_or(&BLANK)
 }
 
 // A word of the tape.
@@ -64,7 +66,7 @@ pub fn word(device: &Device, at: u64) -> u64 {
 
 // The head's words.
 pub fn head(device: &Device) -> [u64; 32] {
-    words_in(&page_at(device, 0))
+    words_in(page_at(device, 0))
 }
 
 impl Rig {
@@ -118,7 +120,7 @@ impl Rig {
             Told::Read(k) => {
                 self.uses.reads = self.uses.reads.saturating_add(1);
                 let page = page_at(&self.device, k);
-                return Ok(self.desk.tell::<Keeper>(Event::Page(&page)));
+                return Ok(self.desk.tell::<Keeper>(Event::Page(page)));
             }
             Told::Write(k) => {
                 self.uses.writes = self.uses.writes.saturating_add(1);

@@ -1,16 +1,15 @@
-use Rattle.std.proofs.Common.{◌<◌, length, ◌∙◌, ap, ap₂, arith}
-use Rattle.pages.specs.Device.{Device, read_page}
-use Rattle.pages.specs.Lists.{each}
-use Rattle.device.specs.Held.{last_of, meant}
-use Rattle.device.proofs.Holding.{seen_is, page_is}
+use Rattle.std.proofs.Common.{◌≡◌, ◌≤◌, Option, Some, None, length, sym, subst}
+use Rattle.std.specs.Borrow.{Bor}
+use Rattle.std.specs.Option.{MatchOption, option_copied}
+use Rattle.pages.specs.Device.{Page, read_page}
 use Rattle.device.proofs.Device.read.Goals as goal
 
-pub returns-then-at-len : goal.returns-then-at-len
-returns-then-at-len c =
-    let ps = c.self.inside.pages.items in
-    let ws = each meant c.self.inside.queue.items in
-    let here : c.args.at < length ps = omega (arith, c.len.ensures) in
-    c.seen.ensures
-    ∙ ap₂ (λ p qs. last_of p (each meant qs) c.args.at) (c.index.ensures ∙ page_is ps c.args.at _ here) c.deref.ensures.value
-    ∙ seen_is ws ps c.args.at here
-    ∙ ap (λ (d : Device). read_page d c.args.at) c.self.view_is
+copied_as : {X : Type 0} (o : Option (Bor X)) (A : Type 0) (P : X → Type 0) → MatchOption o A (λ x. P x.now) → MatchOption (option_copied o) A P
+copied_as None A P h = h
+copied_as (Some x) A P h = h
+
+pub returns : goal.returns
+returns c =
+    let d = c.args.self.now in
+    subst (λ r. MatchOption r (length d.pages ≤ c.args.at) (λ page. page ≡ read_page d c.args.at)) (sym c.copied.ensures)
+    (copied_as c.page.result (length d.pages ≤ c.args.at) (λ (page : Page). page ≡ read_page d c.args.at) c.page.ensures)
