@@ -1,6 +1,7 @@
 -- Files, commits and names as they are put together and read; bytes in words and back. Assumes nothing.
-use Rattle.std.proofs.Common.{◌≡◌, ℕ, zero, suc, ◌+◌, ◌-◌, ◌*◌, ◌<◌, ◌≤◌, min, Bool, true, ◌&&◌, eqb, leb, List, ◌∷◌, ◌++◌, length, take, drop, set, Some, None, sym, refl, ap, ◌∙◌, ap₂, ⊎_elim, arith, length-append, length-drop}
+use Rattle.std.proofs.Common.{◌≡◌, ℕ, zero, suc, ◌+◌, ◌-◌, ◌*◌, ◌/◌, ◌%◌, ◌<◌, ◌≤◌, min, Bool, true, ◌&&◌, eqb, leb, List, [], ◌∷◌, ◌++◌, length, get_or, take, drop, set, Some, None, sym, refl, ap, ◌∙◌, ap₂, ⊎_elim, arith, length-append, length-drop}
 use lib.Seq.{take-append-add}
+use Rattle.std.specs.Simd.{first_chunks}
 use Rattle.std.proofs.lemmas.List.{append-nil, drop-append-le, drop_all, drop_at, drop-drop, drop-take, length-take, length-take-le, take_all, take_min, nil_from_length, take-append-le, take_at, take-take}
 use Rattle.std.proofs.lemmas.Bool.{and_from, and_parts, cases_lt, eq-eqb, le-leb, leb-true}
 use Rattle.pages.specs.Bytes.{all_bytes, from_bytes}
@@ -158,6 +159,31 @@ put_more bs m x w at i l h e f =
   where
     place : at + i ≡ at + length (words i (bs ++ zeros 7))
     place = omega (arith, length_words i (bs ++ zeros 7))
+
+-- the i-th of the whole eights, as it stands and with no zeros behind it
+eights_at : (k i : ℕ) (bs : List ℕ) → i < k → get_or (first_chunks 8 k bs) i [] ≡ take 8 (drop (8 * i) bs)
+eights_at zero i bs h = absurd (omega arith)
+eights_at (suc k) zero bs h = refl
+eights_at (suc k) (suc i) bs h =
+    let e : 8 + 8 * i ≡ 8 * suc i = omega arith in
+    eights_at k i (drop 8 bs) (omega arith) ∙ ap (take 8) (drop-drop (8 * i) 8 bs ∙ ap (λ n. drop n bs) e)
+
+pub whole_eight : (bs : List ℕ) (es : List (List ℕ)) (i : ℕ) → es ≡ first_chunks 8 (length bs / 8) bs → length es ≡ length bs / 8 → i < length es →
+    get_or es i [] ≡ take 8 (drop (8 * i) bs) ++ zeros (8 - length (take 8 (drop (8 * i) bs)))
+whole_eight bs es i e l h =
+    ap (λ xs. get_or xs i []) e ∙ eights_at (length bs / 8) i bs (omega (arith, l))
+    ∙ sym (ap (λ n. take 8 (drop (8 * i) bs) ++ zeros n) none ∙ no_zeros (take 8 (drop (8 * i) bs)))
+  where
+    none : 8 - length (take 8 (drop (8 * i) bs)) ≡ 0
+    none = omega (arith, length-take 8 (drop (8 * i) bs), length-drop (8 * i) bs, l)
+
+-- what is left behind them, with zeros behind it
+pub last_eight : (bs rest w : List ℕ) (i : ℕ) → rest ≡ drop (length bs / 8 * 8) bs → length rest ≡ length bs % 8 → i ≡ length bs / 8 →
+    w ≡ rest ++ zeros (8 - length rest) → w ≡ take 8 (drop (8 * i) bs) ++ zeros (8 - length (take 8 (drop (8 * i) bs)))
+last_eight bs rest w i e l j f = f ∙ ap (λ z. z ++ zeros (8 - length z)) (sym (take_all 8 rest (omega (arith, l))) ∙ ap (take 8) (e ∙ ap (λ n. drop n bs) place))
+  where
+    place : length bs / 8 * 8 ≡ 8 * i
+    place = omega (arith, j)
 
 pub put_all : (bs m : List ℕ) (at : ℕ) → at + words_for (length bs) ≤ length m → over at (packed_bytes bs) m ≡ bytes_put at bs m
 put_all bs m at h = sym (pick_true (leb (at + words_for (length bs)) (length m)) (over at (packed_bytes bs) m) m (le-leb (at + words_for (length bs)) (length m) h))

@@ -226,8 +226,12 @@ pub fn put_bytes(memory: &mut [u64], at: usize, bytes: &[u8])
     if at > memory.len() || words > memory.len() - at {
         return;
     }
-    for (i, eight) in bytes.chunks(8).enumerate() {
-        memory[at + i] = number(&padded(eight));
+    let (eights, rest) = bytes.as_chunks::<8>();
+    for (i, eight) in eights.iter().enumerate() {
+        memory[at + i] = number(eight);
+    }
+    if !rest.is_empty() {
+        memory[at + eights.len()] = number(&padded(rest));
     }
 }
 

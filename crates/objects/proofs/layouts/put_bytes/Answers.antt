@@ -1,38 +1,43 @@
-use Rattle.std.proofs.Common.{◌≡◌, ◌+◌, ◌-◌, ◌*◌, ◌++◌, min, length, drop, set, sym, ap, ◌∙◌, ap₂, arith, rules, length-drop}
+use Rattle.std.proofs.Common.{◌≡◌, ◌+◌, ◌++◌, false, eqb, length, set, sym, ap, ◌∙◌, arith}
+use Rattle.std.proofs.lemmas.Bool.Decides.{nat_tests}
 use Rattle.pages.specs.Lists.{zeros}
 use Rattle.pages.specs.Words.{over, words}
 use Rattle.objects.specs.Layouts.{words_for}
-use Rattle.objects.proofs.LayoutLaws.{chunk_is, put_all, put_more, put_none}
+use Rattle.objects.proofs.LayoutLaws.{last_eight, put_all, put_more, put_none, whole_eight}
 use Rattle.objects.proofs.layouts.put_bytes.Goals as goal
 
 pub loop-i-init : goal.loop-i-init
-loop-i-init c =
-    let n : c.into_iter-i-iterator.result.count ≡ 0 = search rules in (
-      search rules,
-      search rules,
-      omega (arith, n),
-      put_none c.args.bytes.now c.args.memory.now c.args.at (omega arith) ∙ ap (λ k. over c.args.at (words k (c.args.bytes.now ++ zeros 7)) c.args.memory.now) (sym n),
-    )
+loop-i-init c = put_none c.args.bytes.now c.args.memory.now c.args.at (omega arith)
 
 pub loop-i-preserved : goal.loop-i-preserved
 loop-i-preserved c =
-    let s = c.in-Some.ensures.steps in
-    let v = c.loop-i.invariant in
-    let i = c.loop-i.i-iterator.count in
-    let m = chunk_is c.args.bytes.now _ _ _ i v.1 s.0.1.0 (s.0.1.1 ∙ ap (λ n. min n (length c.loop-i.i-iterator.iter.rest.now)) v.0) s.0.1.2 in (
-      s.0.0 ∙ v.0,
-      m.1 ∙ ap (λ k. drop (8 * k) c.args.bytes.now) (sym s.2),
-      omega (arith, m.0, s.2),
-      ap₂ (λ k n. set c.loop-i.memory (c.args.at + k) n) s.1 c.number.ensures
-          ∙ put_more c.args.bytes.now c.args.memory.now c.loop-i.memory c.padded.result c.args.at i m.0 (omega (arith, m.0)) v.3 (c.padded.ensures ∙ ap (λ z. z ++ zeros (8 - length z)) m.2)
-          ∙ ap (λ k. over c.args.at (words k (c.args.bytes.now ++ zeros 7)) c.args.memory.now) (sym s.2),
-    )
+    let bs = c.args.bytes.now in
+    let i = c.loop-i.i in
+    let s = c.as_chunks.ensures in
+    ap (set c.loop-i.memory (c.args.at + i)) c.number.ensures
+    ∙ put_more bs c.args.memory.now c.loop-i.memory _ c.args.at i (omega (arith, s.front_len)) (omega (arith, s.front_len)) c.loop-i.invariant
+    (whole_eight bs c.as_chunks.result.0.now i s.front s.front_len (omega arith))
 
-pub returns : goal.returns
-returns c =
+pub returns-then-not-is_empty : goal.returns-then-not-is_empty
+returns-then-not-is_empty c =
     let bs = c.args.bytes.now in
     let m = c.args.memory.now in
-    let i = c.loop-i.i-iterator.count in
-    let v = c.loop-i.invariant in
-    let all : i ≡ words_for (length bs) = omega (arith, v.2, ap length v.1, length-drop (8 * i) bs, c.in-None.ensures.steps.0.1.0) in
-    v.3 ∙ ap (λ n. over c.args.at (words n (bs ++ zeros 7)) m) all ∙ put_all bs m c.args.at (omega arith)
+    let s = c.as_chunks.ensures in
+    let i = length c.as_chunks.result.0.now in
+    let some : eqb (length c.as_chunks.result.1.now) 0 ≡ false = sym c.is_empty.ensures ∙ c.if-not-is_empty.true in
+    let end : c.loop-i.i ≡ i = omega arith in
+    let over_eights = c.loop-i.invariant ∙ ap (λ n. over c.args.at (words n (bs ++ zeros 7)) m) end in
+    let all : i + 1 ≡ words_for (length bs) = grind (arith, nat_tests) in
+    ap (set c.loop-i.memory (c.args.at + i)) c.number-then-not-is_empty.ensures
+    ∙ put_more bs m c.loop-i.memory c.padded.result c.args.at i (omega (arith, s.front_len, all)) (omega (arith, all)) over_eights
+    (last_eight bs c.as_chunks.result.1.now c.padded.result i s.back s.back_len s.front_len c.padded.ensures)
+    ∙ ap (λ n. over c.args.at (words n (bs ++ zeros 7)) m) all ∙ put_all bs m c.args.at (omega arith)
+
+pub returns-else-not-is_empty : goal.returns-else-not-is_empty
+returns-else-not-is_empty c =
+    let bs = c.args.bytes.now in
+    let m = c.args.memory.now in
+    let s = c.as_chunks.ensures in
+    let none : length c.as_chunks.result.1.now ≡ 0 = grind (arith, nat_tests) in
+    let all : c.loop-i.i ≡ words_for (length bs) = omega (arith, s.front_len, s.back_len, none) in
+    c.loop-i.invariant ∙ ap (λ n. over c.args.at (words n (bs ++ zeros 7)) m) all ∙ put_all bs m c.args.at (omega arith)
