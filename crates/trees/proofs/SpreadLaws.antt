@@ -1,8 +1,8 @@
 -- Stored entries spread into a row.
-use Rattle.std.proofs.Common.{◌≡◌, ℕ, zero, suc, ◌+◌, ◌-◌, ◌*◌, ◌<◌, ◌≤◌, true, false, leb, List, [], ◌∷◌, ◌++◌, length, get_or, take, drop, set, sym, refl, ap, ◌∙◌, ap₂, append_assoc, append-nil, add-zero, arith, length-append, length-drop, length-set, length-take}
+use Rattle.std.proofs.Common.{◌≡◌, ℕ, zero, suc, ◌+◌, ◌-◌, ◌*◌, ◌<◌, ◌≤◌, true, false, leb, List, [], ◌∷◌, ◌++◌, length, get_or, take, drop, set, sym, refl, ap, ◌∙◌, ap₂, append_assoc, append-nil, add-zero, arith, length-append, length-take}
 use borrow.Rule.Slice.PartMut.{put_mid}
 use Rattle.std.proofs.lemmas.Bool.{le-leb, and_from}
-use Rattle.std.proofs.lemmas.List.{drop-drop, get_or-drop, get_or-take, get_or_past, get_or_at, take_all, take_more_set, take_at, drop_at, length-take-le, take-append-drop}
+use Rattle.std.proofs.lemmas.List.{drop-drop, get_or-drop, get_or-take, get_or_past, get_or_at, get_or_append_left, take_at, drop_at, length-take-le, take-append-drop}
 use Rattle.pages.specs.Lists.{flat, zeros}
 use Rattle.pages.proofs.ListLaws.{pick_true, pick_false}
 use Rattle.pages.proofs.WordLaws.{length_zeros}
@@ -31,28 +31,6 @@ path_word_in xs at k i h = sym (get_or_zeros_behind (take k (drop at xs)) 8 i �
 pub path_word_past : (xs : List ℕ) (at k i : ℕ) → k ≤ i → 0 ≡ get_or (take k (drop at xs) ++ zeros 8) i 0
 path_word_past xs at k i h = sym (get_or_zeros_behind (take k (drop at xs)) 8 i ∙ get_or_past (take k (drop at xs)) i 0 (omega (arith, length-take k (drop at xs))))
 
-zeros_front : (k a : ℕ) → k ≤ a → take k (zeros a) ≡ zeros k
-unfolding zeros
-zeros_front zero a h = refl
-zeros_front (suc k) zero h = absurd (omega arith)
-zeros_front (suc k) (suc a) h = ap (λ xs. 0 ∷ xs) (zeros_front k a (omega arith))
-
-front : (p : List ℕ) (k a b : ℕ) → length p ≤ k → k ≤ a → k ≤ b → take k (p ++ drop (length p) (zeros a)) ≡ take k (p ++ zeros b)
-unfolding zeros
-front [] k a b h l m = zeros_front k a l ∙ sym (zeros_front k b m)
-front (x ∷ p) zero a b h l m = absurd (omega arith)
-front (x ∷ p) (suc k) zero b h l m = absurd (omega arith)
-front (x ∷ p) (suc k) (suc a) b h l m = ap (λ ys. x ∷ ys) (front p k a b (omega arith) (omega arith) (omega arith))
-
--- ten words, over zeros: a path in front, its length, the reference
-pub ten_made : (p : List ℕ) (s r : ℕ) → length p ≤ 8 → set (set (p ++ drop (length p) (zeros 10)) 8 s) 9 r ≡ (take 8 (p ++ zeros 8) ++ s ∷ []) ++ r ∷ []
-ten_made p s r h =
-    let ws : List ℕ = p ++ drop (length p) (zeros 10) in
-    let l : length ws ≡ 10 = omega (arith, length-append p (drop (length p) (zeros 10)), length-drop (length p) (zeros 10), length_zeros 10) in
-    sym (take_all 10 (set (set ws 8 s) 9 r) (omega (arith, length-set (set ws 8 s) 9 r, length-set ws 8 s)))
-    ∙ take_more_set (set ws 8 s) 9 r (omega (arith, length-set ws 8 s)) ∙ ap (λ u. u ++ r ∷ []) (take_more_set ws 8 s (omega arith))
-    ∙ ap (λ u. (u ++ s ∷ []) ++ r ∷ []) (front p 8 10 8 h (omega arith) (omega arith))
-
 pub unpacked_words : (xs : List ℕ) (at size k r : ℕ) → size ≡ get_or xs at 0 → k ≡ needed size →
     (take 8 (take k (drop (at + 1) xs) ++ zeros 8) ++ size ∷ []) ++ r ∷ [] ≡ in_words (unpacked r (drop at xs))
 unfolding unpacked
@@ -60,6 +38,21 @@ unpacked_words xs at size k r es ek =
     let s : size ≡ get_or (drop at xs) 0 0 = es ∙ sym (get_or-drop at xs 0 0 ∙ ap (λ n. get_or xs n 0) (add-zero at)) in
     ap₂ (λ n ys. (take 8 (take n ys ++ zeros 8) ++ size ∷ []) ++ r ∷ []) (ek ∙ ap needed s) (sym (drop-drop 1 at xs))
     ∙ ap (λ x. (take 8 (take (needed (get_or (drop at xs) 0 0)) (drop 1 (drop at xs)) ++ zeros 8) ++ x ∷ []) ++ r ∷ []) s
+
+-- a word of them: of the path, its length, and the reference
+module _ (front : List ℕ) (s r : ℕ) (e : length front ≡ 8) where
+  pub word_path : (i : ℕ) → i < 8 → get_or ((front ++ s ∷ []) ++ r ∷ []) i 0 ≡ get_or front i 0
+  word_path i h =
+      get_or_append_left (front ++ s ∷ []) (r ∷ []) 0 i (omega (arith, length-append front (s ∷ []))) ∙ get_or_append_left front (s ∷ []) 0 i (omega arith)
+
+  pub word_size : get_or ((front ++ s ∷ []) ++ r ∷ []) 8 0 ≡ s
+  word_size = get_or_append_left (front ++ s ∷ []) (r ∷ []) 0 8 (omega (arith, length-append front (s ∷ []))) ∙ get_or_at front s [] 0 8 e
+
+  pub word_reference : get_or ((front ++ s ∷ []) ++ r ∷ []) 9 0 ≡ r
+  word_reference = get_or_at (front ++ s ∷ []) r [] 0 9 (omega (arith, length-append front (s ∷ [])))
+
+pub length_front : (p : List ℕ) → length (take 8 (p ++ zeros 8)) ≡ 8
+length_front p = omega (arith, length-take 8 (p ++ zeros 8), length-append p (zeros 8), length_zeros 8)
 
 -- an entry that was stored has nine words for its key
 pub length_unpacked : (r : ℕ) (xs : List ℕ) → length (unpacked r xs).path ≡ 9

@@ -8,6 +8,7 @@ ghost use Rattle.trees.specs.Row.{in_words, laid};
 use crate::entries::{Entry, entries};
 use crate::rows::{space, weight};
 use pages::object::{heading, references_in};
+use std::array;
 
 // The kind of a tree among stored objects.
 pub const TREE: u16 = 2;
@@ -88,19 +89,26 @@ fn word(words: &[u64], i: usize) -> u64
     words.get(i).copied().unwrap_or(0)
 }
 
-// The ten words of the entry with this reference whose path is stored at a place: its path, with zeros behind, the path's length, and the reference.
+// A word of an entry whose path is stored at a place: of the path, which is zeros behind its own words, the path's length, or the reference.
+fn word_of(stored: &[u64], at: usize, reference: u64, i: usize) -> u64
+    requires { at < 65536 }
+    ensures { i < 10 → result ≡ slice_index (in_words (unpacked reference (drop at stored.now))) i }
+{
+    let size = word(stored, at);
+    match i {
+        8 => size,
+        9 => reference,
+        _ if i < path_words(size) => word(stored, at + 1 + i),
+        _ => 0,
+    }
+}
+
+// The ten words of the entry with this reference whose path is stored at a place.
 fn unpack(stored: &[u64], at: usize, reference: u64) -> Entry
     requires { at < 65536 }
     ensures { result ≡ in_words (unpacked reference (drop at stored.now)) }
 {
-    let size = word(stored, at);
-    let rest = stored.get(at + 1..).unwrap_or(&[]);
-    let many = path_words(size).min(rest.len());
-    let mut entry = [0; 10];
-    entry[..many].copy_from_slice(&rest[..many]);
-    entry[8] = size;
-    entry[9] = reference;
-    entry
+    array::from_fn(|i| word_of(stored, at, reference, i))
 }
 
 // Spreads n stored entries: their references begin at the third word, and their paths behind the weight.
