@@ -42,7 +42,15 @@ pub(crate) fn is_at(entry: &Entry, key: &Key) -> bool
 fn is_up_to(key: &Key, entry: &Entry) -> bool
     ensures { result ≡ halts false key.now (take 9 entry.now) }
 {
-    key.as_slice().cmp(&entry[..9]).is_le()
+    for (word, other) in key.iter().zip(entry) {
+        if word < other {
+            return true;
+        }
+        if word > other {
+            return false;
+        }
+    }
+    true
 }
 
 // Which entry stands at a key.
