@@ -43,7 +43,7 @@ fn put_tree(out: &mut Vec<u8>, tree: &Tree) -> Result<(), AllocError> {
     Ok(())
 }
 
-fn is_marked(marks: &[bool], k: usize) -> bool
+pub(crate) fn is_marked(marks: &[bool], k: usize) -> bool
     ensures { result ≡ slice_index_or marks.now k false }
 {
     marks.get(k).copied().unwrap_or(false)
@@ -158,7 +158,7 @@ impl Book {
     }
 
     // These commits and all that come before them, as marks; a number that is no commit's is passed over.
-    fn marks(&self, starts: &[usize]) -> Result<Vec<bool>, AllocError>
+    pub(crate) fn marks(&self, starts: &[usize]) -> Result<Vec<bool>, AllocError>
         ensures len { IfOk result (λ marks. vec_len marks ≡ vec_len self.now.commits) }
         ensures past { IfOk result (λ marks. All (λ k. vec_len self.now.commits ≤ k) starts.now → All IsFalse marks.items) }
     {

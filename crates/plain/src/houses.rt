@@ -9,7 +9,7 @@ ghost use Rattle.plain.specs.Sides.{rows};
 ghost use Rattle.plain.specs.declared.houses.Trouble.TheVariants.{Memory, Refused};
 ghost use Rattle.std.specs.Prelude.{◌≡◌, [], ◌∷◌, not, IfOk, OnErr};
 
-use crate::book::Book;
+use crate::book::{Book, is_marked};
 use crate::refusal;
 use crate::tree::{Met, Tree, alike, meet};
 use commands::{Command, Refusal};
@@ -535,11 +535,11 @@ struct Way {
 
 // Our commits that another one does not come from, the oldest first.
 fn ours_alone(book: &Book, j: usize, k: usize) -> Result<Vec<usize>, AllocError> {
-    let theirs = book.back(&[j])?;
+    let theirs = book.marks(&[j])?;
     let mut mine = Vec::new(book.heap);
     let mut at = Some(k);
     for _ in 0..book.len() {
-        let Some(i) = at.filter(|i| !theirs.contains(i)) else {
+        let Some(i) = at.filter(|i| !is_marked(theirs.as_slice(), *i)) else {
             break;
         };
         mine.push(i)?;
