@@ -7,7 +7,6 @@ ghost use Rattle.pages.specs.Words.{over, page_words};
 
 use crate::told::{Event, Told};
 use crate::words::{page_words, put_bytes, put_head, put_words};
-use std::mem::{self, ManuallyDrop};
 
 // The words of the buffer, at the front of a client's memory.
 pub const BUFFER: usize = 41_088;
@@ -177,6 +176,171 @@ impl Machine {
         self.serving = Serving::Idle;
         Told::Done
     }
+
+    // What was asked for is done: the client is asked again.
+    fn ask<C: Client>(&mut self, client: &mut C, memory: &mut [u64], out: &mut [u8]) -> Told
+        requires { (buffer_words ≤ length memory.old) × (row_bytes ≤ length out.old) }
+        ensures { Moves (begun self.old.ring (C.housed.program.resumes client.old memory.old)) self.new client.new memory.new result out.old out.new }
+    {
+        let request = client.resume(memory);
+        self.begin(memory, request, out)
+    }
+
+    // A page of what is looked at came.
+    fn look_on<C: Client>(
+        &mut self,
+        client: &mut C,
+        at: u64,
+        left: u64,
+        got: u64,
+        words: &[u64; 64],
+        memory: &mut [u64],
+        out: &mut [u8],
+    ) -> Told
+        requires { (buffer_words ≤ length memory.old) × (row_bytes ≤ length out.old) }
+        ensures { Moves (go_on C.housed.program self.old.ring client.old (looked at left got words.now memory.old)) self.new client.new memory.new result out.old out.new }
+    {
+        let many = take_words(at, left, got, words, memory);
+        if left <= many {
+            return self.ask(client, memory, out);
+        }
+        let at = at.saturating_add(many);
+        self.serving = Serving::Looking {
+            at,
+            left: left - many,
+            got: got + many,
+        };
+        Told::Read(place_of(self.ring, at / 64))
+    }
+
+    // The page came that was asked for.
+    fn page_came<C: Client>(
+        &mut self,
+        client: &mut C,
+        page: &[u8],
+        memory: &mut [u64],
+        out: &mut [u8],
+    ) -> Told
+        requires { (buffer_words ≤ length memory.old) × (row_bytes ≤ length out.old) }
+        ensures { Moves (page_came C.housed.program self.old.ring client.old memory.old (page_words page.now) self.old.serving) self.new client.new memory.new result out.old out.new }
+    {
+        let words = page_words(page);
+        match self.serving {
+            Serving::Recalling => {
+                memory[0..32].copy_from_slice(&words[0..32]);
+                self.ask(client, memory, out)
+            }
+            Serving::Looking { at, left, got } => self.look_on(
+                client, at, left, got, &words, memory, out,
+            ),
+            Serving::Opening { at, limit } => {
+                let header = words[(at % 64) as usize];
+                let wanted = (header % 4_294_967_296)
+                    .min(limit)
+                    .min(BUFFER as u64)
+                    .max(1);
+                self.look_on(client, at, wanted, 0, &words, memory, out)
+            }
+            _ => self.give_up(),
+        }
+    }
+
+    // A page of the buffer was laid: the next one, or the client is asked again.
+    fn lay_on<C: Client>(
+        &mut self,
+        client: &mut C,
+        page: u64,
+        left: u64,
+        from: u64,
+        memory: &mut [u64],
+        out: &mut [u8],
+    ) -> Told
+        requires { (buffer_words ≤ length memory.old) × (row_bytes ≤ length out.old) }
+        ensures { Moves (laid_on C.housed.program self.old.ring client.old memory.old page left from) self.new client.new memory.new result out.old out.new }
+    {
+        if left == 0 || from > 41_024 {
+            return self.ask(client, memory, out);
+        }
+        let next = page.saturating_add(1);
+        put_words(&memory[from as usize..from as usize + 64], out);
+        self.serving = Serving::Laying {
+            page: next,
+            left: left - 1,
+            from: from + 64,
+        };
+        Told::Write(place_of(self.ring, next))
+    }
+
+    // The last act is done.
+    fn act_done<C: Client>(&mut self, client: &mut C, memory: &mut [u64], out: &mut [u8]) -> Told
+        requires { (buffer_words ≤ length memory.old) × (row_bytes ≤ length out.old) }
+        ensures { Moves (act_done C.housed.program self.old.ring client.old memory.old self.old.serving) self.new client.new memory.new result out.old out.new }
+    {
+        match self.serving {
+            Serving::Laying { page, left, from } => self.lay_on(
+                client, page, left, from, memory, out,
+            ),
+            Serving::Flushing => {
+                put_head(&memory[0..32], out);
+                self.serving = Serving::Heading;
+                Told::Write(0)
+            }
+            Serving::Heading => {
+                self.serving = Serving::Settling;
+                Told::Flush
+            }
+            Serving::Settling => self.ask(client, memory, out),
+            Serving::Showing => self.ask(client, memory, out),
+            _ => self.give_up(),
+        }
+    }
+
+    fn take_in<C: Client>(
+        &mut self,
+        client: &mut C,
+        memory: &mut [u64],
+        event: Event,
+        out: &mut [u8],
+    ) -> Told
+        requires { (buffer_words ≤ length memory.old) × (row_bytes ≤ length out.old) }
+        ensures { Moves (served C.housed.program self.old client.old memory.old (event_meant event.entry)) self.new client.new memory.new result out.old out.new }
+    {
+        match event {
+            Event::On {
+                house,
+                houses,
+                pages,
+            } => {
+                client.wake(house, houses, pages);
+                self.ring = pages.saturating_sub(1).max(1);
+                self.give_up()
+            }
+            Event::Said(text) => {
+                let request = client.hear(memory, text);
+                self.begin(memory, request, out)
+            }
+            Event::Page(page) => self.page_came(client, page, memory, out),
+            Event::Next => self.act_done(client, memory, out),
+            Event::Heard(_) => self.give_up(),
+            Event::Lost => self.give_up(),
+        }
+    }
+}
+
+// One step of a machine and a client that are lent: what comes is taken in, and one act is told.
+pub fn serve<C: Client>(
+    machine: &mut Machine,
+    client: &mut C,
+    memory: &mut [u64],
+    event: Event,
+    out: &mut [u8],
+) -> Told
+    ensures { ServeSays (serve_fits memory.old out.old) C.housed.program machine.old client.old memory.old (event_meant event.entry) out.old result machine.new client.new memory.new out.new }
+{
+    if memory.len() < BUFFER || out.len() < ROW {
+        return Told::No(0);
+    }
+    machine.take_in(client, memory, event, out)
 }
 
 // A client, and the machine that serves it. Its memory and the row of bytes are lent to each step.
@@ -189,169 +353,10 @@ pub struct Server<C> {
 }
 
 impl<C: Client> Server<C> {
-    // What was asked for is done: the client is asked again.
-    fn ask(&mut self, memory: &mut [u64], out: &mut [u8]) -> Told
-        requires { (buffer_words ≤ length memory.old) × (row_bytes ≤ length out.old) }
-        ensures { Moves (begun self.old.machine.ring (C.housed.program.resumes self.old.client memory.old)) self.new.machine self.new.client memory.new result out.old out.new }
-    {
-        let request = self.client.resume(memory);
-        self.machine.begin(memory, request, out)
-    }
-
-    // A page of what is looked at came.
-    fn look_on(
-        &mut self,
-        at: u64,
-        left: u64,
-        got: u64,
-        words: &[u64; 64],
-        memory: &mut [u64],
-        out: &mut [u8],
-    ) -> Told
-        requires { (buffer_words ≤ length memory.old) × (row_bytes ≤ length out.old) }
-        ensures { Moves (go_on C.housed.program self.old.machine.ring self.old.client (looked at left got words.now memory.old)) self.new.machine self.new.client memory.new result out.old out.new }
-    {
-        let many = take_words(at, left, got, words, memory);
-        if left <= many {
-            return self.ask(memory, out);
-        }
-        let at = at.saturating_add(many);
-        self.machine.serving = Serving::Looking {
-            at,
-            left: left - many,
-            got: got + many,
-        };
-        Told::Read(place_of(self.machine.ring, at / 64))
-    }
-
-    // The page came that was asked for.
-    fn page_came(&mut self, page: &[u8], memory: &mut [u64], out: &mut [u8]) -> Told
-        requires { (buffer_words ≤ length memory.old) × (row_bytes ≤ length out.old) }
-        ensures { Moves (page_came C.housed.program self.old.machine.ring self.old.client memory.old (page_words page.now) self.old.machine.serving) self.new.machine self.new.client memory.new result out.old out.new }
-    {
-        let words = page_words(page);
-        match self.machine.serving {
-            Serving::Recalling => {
-                memory[0..32].copy_from_slice(&words[0..32]);
-                self.ask(memory, out)
-            }
-            Serving::Looking { at, left, got } => self.look_on(at, left, got, &words, memory, out),
-            Serving::Opening { at, limit } => {
-                let header = words[(at % 64) as usize];
-                let wanted = (header % 4_294_967_296)
-                    .min(limit)
-                    .min(BUFFER as u64)
-                    .max(1);
-                self.look_on(at, wanted, 0, &words, memory, out)
-            }
-            _ => self.machine.give_up(),
-        }
-    }
-
-    // A page of the buffer was laid: the next one, or the client is asked again.
-    fn lay_on(
-        &mut self,
-        page: u64,
-        left: u64,
-        from: u64,
-        memory: &mut [u64],
-        out: &mut [u8],
-    ) -> Told
-        requires { (buffer_words ≤ length memory.old) × (row_bytes ≤ length out.old) }
-        ensures { Moves (laid_on C.housed.program self.old.machine.ring self.old.client memory.old page left from) self.new.machine self.new.client memory.new result out.old out.new }
-    {
-        if left == 0 || from > 41_024 {
-            return self.ask(memory, out);
-        }
-        let next = page.saturating_add(1);
-        put_words(&memory[from as usize..from as usize + 64], out);
-        self.machine.serving = Serving::Laying {
-            page: next,
-            left: left - 1,
-            from: from + 64,
-        };
-        Told::Write(place_of(self.machine.ring, next))
-    }
-
-    // The last act is done.
-    fn act_done(&mut self, memory: &mut [u64], out: &mut [u8]) -> Told
-        requires { (buffer_words ≤ length memory.old) × (row_bytes ≤ length out.old) }
-        ensures { Moves (act_done C.housed.program self.old.machine.ring self.old.client memory.old self.old.machine.serving) self.new.machine self.new.client memory.new result out.old out.new }
-    {
-        match self.machine.serving {
-            Serving::Laying { page, left, from } => self.lay_on(page, left, from, memory, out),
-            Serving::Flushing => {
-                put_head(&memory[0..32], out);
-                self.machine.serving = Serving::Heading;
-                Told::Write(0)
-            }
-            Serving::Heading => {
-                self.machine.serving = Serving::Settling;
-                Told::Flush
-            }
-            Serving::Settling => self.ask(memory, out),
-            Serving::Showing => self.ask(memory, out),
-            _ => self.machine.give_up(),
-        }
-    }
-
-    // One step: what comes is taken in, and one act is told.
+    // One step of its own machine and client.
     pub fn serve(&mut self, memory: &mut [u64], event: Event, out: &mut [u8]) -> Told
         ensures { ServeSays (serve_fits memory.old out.old) C.housed.program self.old.machine self.old.client memory.old (event_meant event.entry) out.old result self.new.machine self.new.client memory.new out.new }
     {
-        if memory.len() < BUFFER || out.len() < ROW {
-            return Told::No(0);
-        }
-        self.take_in(memory, event, out)
+        serve(&mut self.machine, &mut self.client, memory, event, out)
     }
-
-    fn take_in(&mut self, memory: &mut [u64], event: Event, out: &mut [u8]) -> Told
-        requires { (buffer_words ≤ length memory.old) × (row_bytes ≤ length out.old) }
-        ensures { Moves (served C.housed.program self.old.machine self.old.client memory.old (event_meant event.entry)) self.new.machine self.new.client memory.new result out.old out.new }
-    {
-        match event {
-            Event::On {
-                house,
-                houses,
-                pages,
-            } => {
-                self.client.wake(house, houses, pages);
-                self.machine.ring = pages.saturating_sub(1).max(1);
-                self.machine.give_up()
-            }
-            Event::Said(text) => {
-                let request = self.client.hear(memory, text);
-                self.machine.begin(memory, request, out)
-            }
-            Event::Page(page) => self.page_came(page, memory, out),
-            Event::Next => self.act_done(memory, out),
-            Event::Heard(_) => self.machine.give_up(),
-            Event::Lost => self.machine.give_up(),
-        }
-    }
-}
-
-// One step of a machine and a client that are lent. The client is moved into a `Server` for the step, and the client of cells that are all 0 stands in its
-// place. `load` is given nothing but cells, so that one owns nothing that would have to be given back: it is leaked, since a client need not be `Drop`.
-pub fn serve<C: Client>(
-    machine: &mut Machine,
-    client: &mut C,
-    memory: &mut [u64],
-    event: Event,
-    out: &mut [u8],
-) -> Told
-    ensures { ServeSays (serve_fits memory.old out.old) C.housed.program machine.old client.old memory.old (event_meant event.entry) out.old result machine.new client.new memory.new out.new }
-{
-    let mut server = Server {
-        machine: *machine,
-        client: mem::replace(client, C::load(&[0; 120])),
-    };
-    let told = server.serve(memory, event, out);
-    let Server {
-        machine: after,
-        client: back,
-    } = server;
-    *machine = after;
-    let _stand_in = unsafe { ManuallyDrop::new_unchecked(mem::replace(client, back)) };
-    told
 }

@@ -7,13 +7,13 @@ use Rattle.pages.specs.declared.machine.Serving.TheVariants.{Laying}
 use Rattle.pages.specs.declared.told.Told.TheVariants.{Write}
 use Rattle.pages.proofs.ListLaws.{pick_false}
 use Rattle.pages.proofs.WordLaws.{length_bytes_of}
-use Rattle.pages.proofs.machine.Server.lay_on.Goals as goal
+use Rattle.pages.proofs.machine.Machine.lay_on.Goals as goal
 
 pub returns : goal.returns
 returns g c =
     let m : List ℕ = c.args.memory.now in
     let out : List ℕ = c.args.out.now in
-    let n : ℕ = c.args.self.now.machine.ring in
+    let n : ℕ = c.args.self.now.ring in
     let from : ℕ = c.args.from in
     let next : c.saturating_add-next.result ≡ min (c.args.page + 1) 18446744073709551615 = c.saturating_add-next.ensures in
     let more : or (eqb c.args.left 0) (ltb 41024 from) ≡ false =
@@ -21,7 +21,7 @@ returns g c =
     let k : from + 64 - from ≡ 64 = omega arith in
     let page : List ℕ = bytes_of (take 64 (drop from m)) in
     subst
-    (λ v. Moves v (record { ring = n; serving = Laying c.saturating_add-next.result (c.args.left - 1) (from + 64) }) c.args.self.now.client m
+    (λ v. Moves v (record { ring = n; serving = Laying c.saturating_add-next.result (c.args.left - 1) (from + 64) }) c.args.client.now m
     (Write c.place_of.result) out c.put_words.new.out)
     (sym (pick_false (or (eqb c.args.left 0) (ltb 41024 from)) _ _ more))
     (record {
