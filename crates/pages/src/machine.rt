@@ -155,6 +155,9 @@ fn take_words(at: u64, left: u64, got: u64, words: &[u64; 64], memory: &mut [u64
     many
 }
 
+// As it stands: the client, its memory and the row of bytes go through these methods as loans. A machine that owns its client cannot serve one that is only lent.
+// A struct around what is lent would owe in each method that it stays the same loan, in place of the clause on its length that it saves; and an array in place of
+// the row is a front of it, of which the clauses on the whole row would have to be shown again.
 impl Machine {
     // A request is served from here on.
     fn begin(&mut self, memory: &[u64], request: Request, out: &mut [u8]) -> Told
@@ -344,8 +347,6 @@ pub fn serve<C: Client>(
 }
 
 // A client, and the machine that serves it. Its memory and the row of bytes are lent to each step.
-// As it stands: a struct around what is lent would owe in each method that it stays the same loan, in place of the clause on its length that it saves; and an
-// array in place of the row is a front of it, of which the clauses on the whole row would have to be shown again.
 #[derive(Drop)]
 pub struct Server<C> {
     pub machine: Machine,
